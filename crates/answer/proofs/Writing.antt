@@ -1,0 +1,40 @@
+-- What the definitions of the sheet's writer come to, by the outcome of its test.
+-- Assumes nothing.
+use Prim.Native.Nat.{ℕ, _≤_}
+use mathlib.Core.Path.{_≡_}
+use mathlib.Core.Bool.{Bool, true, false, _&&_}
+use mathlib.Core.List.{List, _++_}
+use lib.Dec.{leb}
+use lib.ListN.{length, take, drop}
+use borrow.Author.Tests.{leb-true}
+use Rattle.answer.specs.declared.Answer.{Answer}
+use Rattle.answer.specs.declared.Answer.the-variants.{Accepted, NotWritten}
+use Rattle.answer.specs.declared.Numbers.{Numbers}
+use Rattle.answer.specs.Numbers.{numbersOf}
+use Rattle.answer.specs.Table.{fit}
+use Rattle.answer.specs.Sheet.{laidOut, sheetOf, isWritten, writeAnswer, writeLeaves}
+use Rattle.answer.proofs.Both.{both}
+
+module _ (answer : Answer) (out : List ℕ) where
+  pub written : isWritten answer out ≡ true
+      → (writeAnswer answer out ≡ Accepted 0 0) × (writeLeaves answer out ≡ sheetOf answer ++ drop 12 out)
+  unfolding writeAnswer writeLeaves
+  written h = (rw h, rw h)
+
+  pub not-written : isWritten answer out ≡ false → (writeAnswer answer out ≡ NotWritten) × (writeLeaves answer out ≡ out)
+  unfolding writeAnswer writeLeaves
+  not-written h = (rw h, rw h)
+
+  -- The test as the writer makes it, on the numbers that it has.
+  pub tested : (n : Numbers) (fits t : Bool) → n ≡ numbersOf answer → fits ≡ fit n → (leb 12 (length out) && fits) ≡ t → isWritten answer out ≡ t
+  unfolding isWritten
+  tested n fits t m f e = rw (← m, ← f) e
+
+-- A copy of the whole sheet leaves the sheet, and the bytes past it.
+pub copied : (answer : Answer) (n : Numbers) (sheet out : List ℕ) → n ≡ numbersOf answer → sheet ≡ laidOut n
+    → take (length sheet) sheet ++ drop (length sheet) out ≡ sheetOf answer ++ drop 12 out
+copied answer n sheet out m h = rw (h, m)
+
+-- The sheet fits where the test holds.
+pub room : (n : Numbers) (fits : Bool) (sheet out : List ℕ) → (leb 12 (length out) && fits) ≡ true → sheet ≡ laidOut n → length sheet ≤ length out
+room n fits sheet out h e = rw e (leb-true 12 (length out) (both (leb 12 (length out)) fits h .0))

@@ -1,0 +1,51 @@
+-- The verdict sheet: twelve bytes, table first, the code last.
+use Prim.Native.Nat.{ℕ, _+_, _*_, _/_, _%_}
+use mathlib.Core.Bool.{Bool, _&&_, cond}
+use mathlib.Core.List.{List, [], _∷_, _++_}
+use lib.Dec.{leb, eqb}
+use lib.ListN.{length, getD, drop}
+use Rattle.answer.specs.declared.Answer.{Answer}
+use Rattle.answer.specs.declared.Answer.the-variants.{NoVerdict, Accepted, NotWritten}
+use Rattle.answer.specs.declared.Numbers.{Numbers}
+use Rattle.answer.specs.Numbers.{four, numbersOf, answerOf}
+use Rattle.answer.specs.Table.{fit}
+
+-- A number in two bytes, little-endian.
+abbrev pub two : ℕ → List ℕ
+two n = n % 256 ∷ n / 256 % 256 ∷ []
+
+-- The number in the two bytes from index i on.
+abbrev pub twoAt : List ℕ → ℕ → ℕ
+twoAt s i = getD s i 0 + 256 * getD s (i + 1) 0
+
+-- Four numbers laid out: the table (body at 4, 8 long), then event, partner, peak and code.
+abbrev pub laidOut : Numbers → List ℕ
+laidOut n = two 4 ++ two 8 ++ two (n .event) ++ two (n .partner) ++ two (n .peak) ++ two (n .code)
+
+-- The sheet of an answer.
+abbrev pub sheetOf : Answer → List ℕ
+sheetOf answer = laidOut (numbersOf answer)
+
+-- The code, event, partner and peak that stand on a sheet.
+abbrev pub numbersAt : List ℕ → Numbers
+numbersAt s = four (twoAt s 10) (twoAt s 4) (twoAt s 6) (twoAt s 8)
+
+-- The input is exactly 12 bytes, the table is as shown, and the numbers fit.
+unfoldable pub isSheet : List ℕ → Bool
+isSheet s = eqb (length s) 12 && (eqb (twoAt s 0) 4 && eqb (twoAt s 2) 8 && fit (numbersAt s))
+
+-- The reader gives no verdict for what is no sheet.
+unfoldable pub readOf : List ℕ → Answer
+readOf s = cond (isSheet s) (answerOf (numbersAt s)) NoVerdict
+
+-- At least 12 bytes are lent, and the answer is one that the reader gives.
+unfoldable pub isWritten : Answer → List ℕ → Bool
+isWritten answer out = leb 12 (length out) && fit (numbersOf answer)
+
+-- What the writer answers: 1 with all numbers 0, or 12.
+unfoldable pub writeAnswer : Answer → List ℕ → Answer
+writeAnswer answer out = cond (isWritten answer out) (Accepted 0 0) NotWritten
+
+-- What the lent bytes hold afterwards: the sheet and the bytes past it, or all as they were.
+unfoldable pub writeLeaves : Answer → List ℕ → List ℕ
+writeLeaves answer out = cond (isWritten answer out) (sheetOf answer ++ drop 12 out) out
