@@ -35,13 +35,13 @@ named-again (NoRoom event) = refl
 named-again NotWritten = refl
 
 -- A code that fits has a row.
-pub small-code : (n : Numbers) → fit n ≡ true → n .code < 12
+pub has-row : (n : Numbers) → fit n ≡ true → n .code < length rows
 unfolding fit fitNamed
-small-code n h = go (leb 12 (n .code)) refl
+has-row n h = go (leb (length rows) (n .code)) refl
   where
-    go : (t : Bool) → leb 12 (n .code) ≡ t → n .code < 12
-    go true e = absurd (false≢true (rw (List·getD-eq-default rows Unread (leb-true 12 (n .code) e)) at h))
-    go false e = leb-false 12 (n .code) e
+    go : (t : Bool) → leb (length rows) (n .code) ≡ t → n .code < length rows
+    go true e = absurd (false≢true (rw (List·getD-eq-default rows Unread (leb-true (length rows) (n .code) e)) at h))
+    go false e = leb-false (length rows) (n .code) e
 
 -- The numbers, those that the row does not name being zero.
 zeroed : Named → Numbers → Numbers
@@ -102,5 +102,5 @@ pub held : (n : Numbers) → fit n ≡ true → Small n × (numbersOf (answerOf 
 unfolding fit
 held n h =
     let f = fitting (namedBy (n .code)) (n .code) (n .event) (n .partner) (n .peak) h in
-    let named = agree-at (n .event) (n .partner) (n .peak) 0 (cases n) rows (agree (n .event) (n .partner) (n .peak) (n .code)) (n .code) (small-code n h) in
+    let named = agree-at (n .event) (n .partner) (n .peak) 0 (cases n) rows (agree (n .event) (n .partner) (n .peak) (n .code)) (n .code) (has-row n h) in
     (f .0, (rw zero-add at named) ∙ f .1)

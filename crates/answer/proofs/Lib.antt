@@ -1,7 +1,9 @@
 -- Laws that the functions' proofs cite, and the proofs of the theorems.
 pub mod Both
+pub mod Fitting
+pub mod TwoBytes
 pub mod Reading
 pub mod Writing
-pub mod TwoBytes
-pub mod Fitting
+pub mod Given
+pub mod Cut
 pub mod Theorems

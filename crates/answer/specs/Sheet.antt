@@ -10,17 +10,21 @@ use Rattle.answer.specs.declared.Numbers.{Numbers}
 use Rattle.answer.specs.Numbers.{four, numbersOf, answerOf}
 use Rattle.answer.specs.Table.{fit}
 
--- A number in two bytes, little-endian.
-abbrev pub two : ℕ → List ℕ
-two n = n % 256 ∷ n / 256 % 256 ∷ []
+-- Numbers in two bytes each, little-endian.
+abbrev pub twoEach : List ℕ → List ℕ
+twoEach [] = []
+twoEach (n ∷ ns) = n % 256 ∷ n / 256 % 256 ∷ twoEach ns
 
 -- The number in the two bytes from index i on.
 abbrev pub twoAt : List ℕ → ℕ → ℕ
 twoAt s i = getD s i 0 + 256 * getD s (i + 1) 0
 
--- Four numbers laid out: the table (body at 4, 8 long), then event, partner, peak and code.
+-- The numbers on a sheet, in order: the table (body at 4, 8 long), then event, partner, peak and code.
+abbrev pub inOrder : Numbers → List ℕ
+inOrder n = 4 ∷ 8 ∷ n .event ∷ n .partner ∷ n .peak ∷ n .code ∷ []
+
 abbrev pub laidOut : Numbers → List ℕ
-laidOut n = two 4 ++ two 8 ++ two (n .event) ++ two (n .partner) ++ two (n .peak) ++ two (n .code)
+laidOut n = twoEach (inOrder n)
 
 -- The sheet of an answer.
 abbrev pub sheetOf : Answer → List ℕ
@@ -42,9 +46,12 @@ readOf s = cond (isSheet s) (answerOf (numbersAt s)) NoVerdict
 unfoldable pub isWritten : Answer → List ℕ → Bool
 isWritten answer out = leb 12 (length out) && fit (numbersOf answer)
 
--- What the writer answers: 1 with all numbers 0, or 12.
+-- When it has written the writer answers 1 with all numbers 0.
+abbrev pub done : Answer
+done = Accepted 0 0
+
 unfoldable pub writeAnswer : Answer → List ℕ → Answer
-writeAnswer answer out = cond (isWritten answer out) (Accepted 0 0) NotWritten
+writeAnswer answer out = cond (isWritten answer out) done NotWritten
 
 -- What the lent bytes hold afterwards: the sheet and the bytes past it, or all as they were.
 unfoldable pub writeLeaves : Answer → List ℕ → List ℕ

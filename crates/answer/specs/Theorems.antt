@@ -6,7 +6,7 @@ use lib.ListN.{length, getD, take, drop, replicate}
 use Rattle.answer.specs.declared.Answer.{Answer}
 use Rattle.answer.specs.declared.Answer.the-variants.{NoVerdict, Accepted, Clash, NotWritten}
 use Rattle.answer.specs.Numbers.{numbersOf}
-use Rattle.answer.specs.Sheet.{sheetOf, readOf, writeAnswer, writeLeaves}
+use Rattle.answer.specs.Sheet.{sheetOf, readOf, done, writeAnswer, writeLeaves}
 
 -- A list of bytes.
 unfoldable pub Bytes : List ℕ → Type 0
@@ -15,10 +15,6 @@ Bytes s = (i : ℕ) → getD s i 0 < 256
 -- The reader gives this answer for some bytes, and it is a verdict.
 abbrev pub Given : Answer → Type 0
 Given a = (s : List ℕ) × Bytes s × (readOf s ≡ a) × (a ≡ NoVerdict → ⊥)
-
--- What the writer answers when it has written: 1 with all numbers 0.
-abbrev pub done : Answer
-done = Accepted 0 0
 
 -- A sheet's first k bytes, followed by zeros to 12.
 abbrev pub cut : ℕ → List ℕ → List ℕ
@@ -33,8 +29,8 @@ unfoldable pub ReadsBack : Type 0
 ReadsBack = (a : Answer) (out : List ℕ) → writeAnswer a out ≡ done → readOf (take 12 (writeLeaves a out)) ≡ a
 
 -- Cut short at any byte, the rest zero, a sheet reads as no verdict or as the whole answer, never as another.
-unfoldable pub CutReadsAsNone : Type 0
-CutReadsAsNone =
+unfoldable pub CutSheet : Type 0
+CutSheet =
     (a : Answer) → Given a → (k : ℕ) → k ≤ 12
     → (k ≤ 10 → readOf (cut k (sheetOf a)) ≡ NoVerdict) × (11 ≤ k → readOf (cut k (sheetOf a)) ≡ a)
 

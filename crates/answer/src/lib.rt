@@ -137,7 +137,7 @@ impl Answer {
 
 impl Numbers {
     // The case of this code, with those of the numbers that it holds; no verdict for a code past the table.
-    pub fn answer(self) -> Answer
+    pub(crate) fn answer(self) -> Answer
         ensures { λ r. ⌜ r ≡ answerOf self ⌝ }
     {
         let event = self.event;

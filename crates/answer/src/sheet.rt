@@ -44,7 +44,7 @@ pub fn write_sheet(answer: Answer, out: &mut [u8]) -> Answer
 }
 
 // The code comes last, so that a cut leaves it zero.
-fn laid_out(numbers: Numbers) -> [u8; 12]
+fn laid_out(numbers: Numbers) -> [u8; SHEET_LENGTH]
     ensures { λ r. ⌜ r ≡ laidOut numbers ⌝ }
 {
     [

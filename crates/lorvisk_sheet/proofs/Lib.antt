@@ -1,1 +1,2 @@
+-- A law that the proof of `put` cites.
 mod Digits
