@@ -6,7 +6,7 @@ pub use sheet::SHEET_LENGTH;
 pub use sheet::read_sheet;
 pub use sheet::write_sheet;
 ghost use mathlib.Core.Path.{_≡_};
-ghost use Rattle.answer.specs.Numbers.{numbersOf, answerOf};
+ghost use Rattle.answer.specs.Numbers.{numbersOf, rowOf, answerOf};
 
 // The most events that a list may have.
 pub const EVENT_LIMIT: u32 = 1024;
@@ -40,97 +40,33 @@ impl Answer {
     pub fn numbers(self) -> Numbers
         ensures { λ r. ⌜ r ≡ numbersOf self ⌝ }
     {
+        let row = self.row();
         Numbers {
-            code: self.code(),
-            event: self.event(),
-            partner: self.partner(),
-            peak: self.peak(),
+            code: row[0],
+            event: row[1],
+            partner: row[2],
+            peak: row[3],
         }
     }
 
-    fn code(self) -> u32
-        ensures { λ r. ⌜ r ≡ numbersOf self .code ⌝ }
+    // Code, event, partner and peak.
+    fn row(self) -> [u32; 4]
+        ensures { λ r. ⌜ r ≡ rowOf self ⌝ }
     {
         match self {
-            Answer::NoVerdict => 0,
-            Answer::Accepted { events: _, peak: _ } => 1,
-            Answer::WrongShape => 2,
-            Answer::TooManyEvents => 3,
-            Answer::WrongMemoryLength => 4,
-            Answer::UnknownKind { event: _ } => 5,
-            Answer::WrongBodyLength { event: _ } => 6,
-            Answer::FieldNotAllowed { event: _ } => 7,
-            Answer::Misaligned { event: _ } => 8,
-            Answer::OutOfRange { event: _ } => 9,
-            Answer::Clash {
-                event: _,
-                partner: _,
-            } => 10,
-            Answer::NoRoom { event: _ } => 11,
-            Answer::NotWritten => 12,
-        }
-    }
-
-    fn event(self) -> u32
-        ensures { λ r. ⌜ r ≡ numbersOf self .event ⌝ }
-    {
-        match self {
-            Answer::NoVerdict => 0,
-            Answer::Accepted { events, peak: _ } => events,
-            Answer::WrongShape => 0,
-            Answer::TooManyEvents => 0,
-            Answer::WrongMemoryLength => 0,
-            Answer::UnknownKind { event } => event,
-            Answer::WrongBodyLength { event } => event,
-            Answer::FieldNotAllowed { event } => event,
-            Answer::Misaligned { event } => event,
-            Answer::OutOfRange { event } => event,
-            Answer::Clash { event, partner: _ } => event,
-            Answer::NoRoom { event } => event,
-            Answer::NotWritten => 0,
-        }
-    }
-
-    fn partner(self) -> u32
-        ensures { λ r. ⌜ r ≡ numbersOf self .partner ⌝ }
-    {
-        match self {
-            Answer::NoVerdict => 0,
-            Answer::Accepted { events: _, peak: _ } => 0,
-            Answer::WrongShape => 0,
-            Answer::TooManyEvents => 0,
-            Answer::WrongMemoryLength => 0,
-            Answer::UnknownKind { event: _ } => 0,
-            Answer::WrongBodyLength { event: _ } => 0,
-            Answer::FieldNotAllowed { event: _ } => 0,
-            Answer::Misaligned { event: _ } => 0,
-            Answer::OutOfRange { event: _ } => 0,
-            Answer::Clash { event: _, partner } => partner,
-            Answer::NoRoom { event: _ } => 0,
-            Answer::NotWritten => 0,
-        }
-    }
-
-    fn peak(self) -> u32
-        ensures { λ r. ⌜ r ≡ numbersOf self .peak ⌝ }
-    {
-        match self {
-            Answer::NoVerdict => 0,
-            Answer::Accepted { events: _, peak } => peak,
-            Answer::WrongShape => 0,
-            Answer::TooManyEvents => 0,
-            Answer::WrongMemoryLength => 0,
-            Answer::UnknownKind { event: _ } => 0,
-            Answer::WrongBodyLength { event: _ } => 0,
-            Answer::FieldNotAllowed { event: _ } => 0,
-            Answer::Misaligned { event: _ } => 0,
-            Answer::OutOfRange { event: _ } => 0,
-            Answer::Clash {
-                event: _,
-                partner: _,
-            } => 0,
-            Answer::NoRoom { event: _ } => 0,
-            Answer::NotWritten => 0,
+            Answer::NoVerdict => [0, 0, 0, 0],
+            Answer::Accepted { events, peak } => [1, events, 0, peak],
+            Answer::WrongShape => [2, 0, 0, 0],
+            Answer::TooManyEvents => [3, 0, 0, 0],
+            Answer::WrongMemoryLength => [4, 0, 0, 0],
+            Answer::UnknownKind { event } => [5, event, 0, 0],
+            Answer::WrongBodyLength { event } => [6, event, 0, 0],
+            Answer::FieldNotAllowed { event } => [7, event, 0, 0],
+            Answer::Misaligned { event } => [8, event, 0, 0],
+            Answer::OutOfRange { event } => [9, event, 0, 0],
+            Answer::Clash { event, partner } => [10, event, partner, 0],
+            Answer::NoRoom { event } => [11, event, 0, 0],
+            Answer::NotWritten => [12, 0, 0, 0],
         }
     }
 }

@@ -1,25 +1,28 @@
--- `answer::Answer::numbers` meets its contract: each field is the number that its call ensures.
+-- `answer::Answer::numbers` meets its contract: each field is the row's number in its place.
 -- Assumes nothing.
 use borrow.Author.Needs.{needs}
 use Rattle.answer.proofs.Answer.numbers.Statement.{statement}
 use Rattle.answer.proofs.Answer.numbers.Tie as tie
 
-code-requires : tie.Need-code-requires
-code-requires c κs = search needs
+row-requires : tie.Need-row-requires
+row-requires c κs = search needs
 
-event-requires : tie.Need-event-requires
-event-requires c κs = search needs
+array-read-t6 : tie.Need-array-read-t6
+array-read-t6 c = search needs
 
-partner-requires : tie.Need-partner-requires
-partner-requires c κs = search needs
+array-read-t9 : tie.Need-array-read-t9
+array-read-t9 c = search needs
 
-peak-requires : tie.Need-peak-requires
-peak-requires c κs = search needs
+array-read-t12 : tie.Need-array-read-t12
+array-read-t12 c = search needs
+
+array-read-t15 : tie.Need-array-read-t15
+array-read-t15 c = search needs
 
 returns : tie.Need-returns
-returns c =
-    rw (c .before .before .before .code .ensures, c .before .before .event .ensures, c .before .partner .ensures, c .peak .ensures)
+returns c = rw (c .row .ensures)
 
 pub numbers-spec : {M : Type 1} → statement M
 numbers-spec =
-    tie.close (tie.spec code-requires event-requires partner-requires peak-requires returns)
+    tie.close
+    (tie.spec row-requires array-read-t6 array-read-t9 array-read-t12 array-read-t15 returns)
