@@ -24,9 +24,9 @@ numbersOf (Clash event partner) = four 10 event partner 0
 numbersOf (NoRoom event) = four 11 event 0 0
 numbersOf NotWritten = four 12 0 0 0
 
--- The same as a row: code, event, partner, peak.
-abbrev pub rowOf : Answer → List ℕ
-rowOf a = numbersOf a .code ∷ numbersOf a .event ∷ numbersOf a .partner ∷ numbersOf a .peak ∷ []
+-- The same in a list, the code first.
+abbrev pub codeFirst : Answer → List ℕ
+codeFirst a = numbersOf a .code ∷ numbersOf a .event ∷ numbersOf a .partner ∷ numbersOf a .peak ∷ []
 
 -- The cases of the table, from code 0 on, each with those of the numbers that it holds.
 abbrev pub cases : Numbers → List Answer

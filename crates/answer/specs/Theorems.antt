@@ -1,4 +1,4 @@
--- What holds of answers and sheets. Each statement is a type, and proofs/Theorems.antt proves it under the same name in small letters.
+-- What holds of answers and sheets. Each statement is a type; proofs/Theorems.antt proves it, as `readsBack : ReadsBack`.
 use Prim.Native.Nat.{ℕ, _-_, _≤_, _<_}
 use mathlib.Core.Path.{_≡_}
 use mathlib.Core.List.{List, [], _∷_, _++_}

@@ -6,7 +6,7 @@ pub use sheet::SHEET_LENGTH;
 pub use sheet::read_sheet;
 pub use sheet::write_sheet;
 ghost use mathlib.Core.Path.{_≡_};
-ghost use Rattle.answer.specs.Numbers.{numbersOf, rowOf, answerOf};
+ghost use Rattle.answer.specs.Numbers.{numbersOf, codeFirst, answerOf};
 
 // The most events that a list may have.
 pub const EVENT_LIMIT: u32 = 1024;
@@ -40,18 +40,18 @@ impl Answer {
     pub fn numbers(self) -> Numbers
         ensures { λ r. ⌜ r ≡ numbersOf self ⌝ }
     {
-        let row = self.row();
+        let numbers = self.code_first();
         Numbers {
-            code: row[0],
-            event: row[1],
-            partner: row[2],
-            peak: row[3],
+            code: numbers[0],
+            event: numbers[1],
+            partner: numbers[2],
+            peak: numbers[3],
         }
     }
 
     // Code, event, partner and peak.
-    fn row(self) -> [u32; 4]
-        ensures { λ r. ⌜ r ≡ rowOf self ⌝ }
+    fn code_first(self) -> [u32; 4]
+        ensures { λ r. ⌜ r ≡ codeFirst self ⌝ }
     {
         match self {
             Answer::NoVerdict => [0, 0, 0, 0],

@@ -3,13 +3,15 @@ use crate::Answer;
 use crate::Numbers;
 ghost use mathlib.Core.Path.{_≡_};
 ghost use lib.ListN.{length};
-ghost use Prim.Native.Nat.{_+_, _<_, _/_, _%_};
+ghost use Prim.Native.Nat.{_+_, _<_};
 ghost use Rattle.answer.specs.Sheet.{twoAt, numbersAt, laidOut, readOf, writeAnswer, writeLeaves};
 
 pub const SHEET_LENGTH: usize = 12;
-// The table: where the body starts, and how long it is.
+
+// The sheet's own table: where its body starts ..
 const BODY_AT: u32 = 4;
 
+// .. and how long that is.
 const BODY_LENGTH: u32 = 8;
 
 // The answer on a sheet; no verdict where the bytes are no sheet.

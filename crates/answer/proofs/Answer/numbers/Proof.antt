@@ -1,11 +1,11 @@
--- `answer::Answer::numbers` meets its contract: each field is the row's number in its place.
+-- `answer::Answer::numbers` meets its contract: each field is the number in its place.
 -- Assumes nothing.
 use borrow.Author.Needs.{needs}
 use Rattle.answer.proofs.Answer.numbers.Statement.{statement}
 use Rattle.answer.proofs.Answer.numbers.Tie as tie
 
-row-requires : tie.Need-row-requires
-row-requires c κs = search needs
+code-first-requires : tie.Need-code-first-requires
+code-first-requires c κs = search needs
 
 array-read-t6 : tie.Need-array-read-t6
 array-read-t6 c = search needs
@@ -20,9 +20,9 @@ array-read-t15 : tie.Need-array-read-t15
 array-read-t15 c = search needs
 
 returns : tie.Need-returns
-returns c = rw (c .row .ensures)
+returns c = rw (c .code-first .ensures)
 
 pub numbers-spec : {M : Type 1} → statement M
 numbers-spec =
     tie.close
-    (tie.spec row-requires array-read-t6 array-read-t9 array-read-t12 array-read-t15 returns)
+    (tie.spec code-first-requires array-read-t6 array-read-t9 array-read-t12 array-read-t15 returns)
