@@ -1,12 +1,13 @@
 -- What holds of answers and sheets. Each statement is a type; proofs/Theorems.antt proves it, as `readsBack : ReadsBack`.
 use Prim.Native.Nat.{ℕ, _-_, _≤_, _<_}
 use mathlib.Core.Path.{_≡_}
+use mathlib.Core.Bool.{true, false}
 use mathlib.Core.List.{List, [], _∷_, _++_}
 use lib.ListN.{length, getD, take, drop, replicate}
 use Rattle.answer.specs.declared.Answer.{Answer}
 use Rattle.answer.specs.declared.Answer.the-variants.{NoVerdict, Accepted, Clash, NotWritten}
 use Rattle.answer.specs.Numbers.{numbersOf}
-use Rattle.answer.specs.Sheet.{sheetOf, readOf, done, writeAnswer, writeLeaves}
+use Rattle.answer.specs.Sheet.{sheetOf, numbersAt, isSheet, readOf, done, writeAnswer, writeLeaves}
 
 -- A list of bytes.
 unfoldable pub Bytes : List ℕ → Type 0
@@ -23,6 +24,11 @@ cut k s = take k s ++ replicate (12 - k) 0
 -- Answers with the same numbers are the same.
 unfoldable pub NumbersTellApart : Type 0
 NumbersTellApart = (a b : Answer) → numbersOf a ≡ numbersOf b → a ≡ b
+
+-- A sheet reads as the one answer that has its numbers, and all else as no verdict.
+unfoldable pub ReadsTheNumbers : Type 0
+ReadsTheNumbers =
+    (s : List ℕ) → (isSheet s ≡ true → numbersOf (readOf s) ≡ numbersAt s) × (isSheet s ≡ false → readOf s ≡ NoVerdict)
 
 -- What was written reads back as the same answer.
 unfoldable pub ReadsBack : Type 0
