@@ -6,6 +6,7 @@ use Rattle.answer.specs.declared.Answer.{Answer}
 use Rattle.answer.specs.declared.Answer.the-variants.{NoVerdict, Accepted, WrongShape, TooManyEvents, WrongMemoryLength, UnknownKind, WrongBodyLength, FieldNotAllowed, Misaligned, OutOfRange, Clash, NoRoom, NotWritten}
 use Rattle.answer.specs.declared.Numbers.{Numbers}
 
+-- A code, with its event, partner and peak.
 abbrev pub four : ℕ → ℕ → ℕ → ℕ → Numbers
 four code event partner peak = record { code = code; event = event; partner = partner; peak = peak }
 
