@@ -53,7 +53,8 @@ module _ (s : List ℕ) where
       go false e = absurd (no-none (sym h ∙ read-no-sheet e))
 
   -- The numbers on a sheet are those of the answer that it reads as.
+  pub numbers-read : isSheet s ≡ true → numbersOf (readOf s) ≡ numbersAt s
+  numbers-read h = ap numbersOf (read-sheet h) ∙ held (numbersAt s) (parts h .3) .1
+
   pub standing : (a : Answer) → readOf s ≡ a → (a ≡ NoVerdict → ⊥) → numbersOf a ≡ numbersAt s
-  standing a h no-none =
-      let sheet = verdict a h no-none in
-      ap numbersOf (sym h ∙ read-sheet sheet) ∙ held (numbersAt s) (parts sheet .3) .1
+  standing a h no-none = ap numbersOf (sym h) ∙ numbers-read (verdict a h no-none)

@@ -13,9 +13,9 @@ use Rattle.answer.specs.Table.{fitNamed, fit}
 use Rattle.answer.specs.Sheet.{twoEach, twoAt, laidOut, numbersAt, sheetOf, isSheet, readOf, isWritten, writeAnswer, writeLeaves}
 use Rattle.answer.specs.Theorems.{Bytes, Given, cut, NumbersTellApart, ReadsTheNumbers, ReadsBack, CutSheet, OtherLengths, OneSheet, WritesWhatIsGiven, KeepsTheRest, DocumentSheets}
 use Rattle.answer.proofs.Cut.{cut-before-code, cut-after-code}
-use Rattle.answer.proofs.Fitting.{named-again, has-row, held}
+use Rattle.answer.proofs.Fitting.{named-again, has-row}
 use Rattle.answer.proofs.Given.{reads, given-fits, fits-given}
-use Rattle.answer.proofs.Reading.{read-sheet, read-no-sheet, other-length, parts, verdict, standing}
+use Rattle.answer.proofs.Reading.{numbers-read, read-no-sheet, other-length, parts, verdict, standing}
 use Rattle.answer.proofs.TwoBytes.{back}
 use Rattle.answer.proofs.Writing
 use Rattle.answer.proofs.Writing.{written, not-written, tested-true, never}
@@ -26,7 +26,7 @@ numbersTellApart a b h = sym (named-again a) ∙ ap answerOf h ∙ named-again b
 
 pub readsTheNumbers : ReadsTheNumbers
 unfolding ReadsTheNumbers
-readsTheNumbers s = (λ h. ap numbersOf (read-sheet s h) ∙ held (numbersAt s) (parts s h .3) .1, read-no-sheet s)
+readsTheNumbers s = (numbers-read s, read-no-sheet s)
 
 pub readsBack : ReadsBack
 unfolding ReadsBack
