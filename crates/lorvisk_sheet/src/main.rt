@@ -35,7 +35,7 @@ fn at_end() -> bool {
     libc::read(STDIN_FILENO, &mut past) == 0
 }
 
-// One write, so that the line is there whole or not at all.
+// One write, so that a pipe has the line whole or not at all.
 fn print(numbers: Numbers) {
     let mut line = [0u8; 44];
     let event_at = put(&mut line, 0, numbers.code, b' ');
