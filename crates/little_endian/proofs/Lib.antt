@@ -1,0 +1,2 @@
+-- Laws of numbers in bytes, each over the number of bytes.
+pub mod Widths

@@ -1,0 +1,53 @@
+-- Numbers in bytes, there and back, over any number of bytes.
+-- Assumes nothing.
+use Prim.Native.Nat.{ℕ, zero, suc, _+_, _*_, _/_, _%_, _^_, _≤_, _<_}
+use mathlib.Core.Path.{_≡_, refl}
+use mathlib.Core.List.{List, _∷_, _++_}
+use native.Mathlib.Omega.{arith}
+use native.Mathlib.Nat.{pow-succ', add-zero, zero-add, suc-add, mul-assoc}
+use native.Mathlib.Numerals.{add-one}
+use lib.Dec.{lit<}
+use lib.ListN.{length, getD, drop}
+use lib.Seq.{drop-cons}
+use Rattle.little_endian.specs.Number.{Bytes, numberAt, bytesOf}
+
+-- A number in v and w bytes is that in the first v and that in the w after them.
+pub halves : (v w : ℕ) (s : List ℕ) (i : ℕ) → numberAt (v + w) s i ≡ numberAt v s i + 256 ^ v * numberAt w s (i + v)
+unfolding numberAt bytesOf
+halves zero w s i = rw (zero-add w, add-zero i) (omega arith)
+halves (suc v) w s i =
+    let rest = halves v w s (i + 1) in
+    let on : i + suc v ≡ i + 1 + v = omega arith in
+    rw (suc-add v w, pow-succ' 256 v, mul-assoc, on) (omega arith)
+
+-- Bytes make a number below what their count allows.
+pub bounded : (w : ℕ) (s : List ℕ) (i : ℕ) → Bytes s → numberAt w s i < 256 ^ w
+unfolding Bytes numberAt bytesOf
+bounded zero s i bytes = lit< tt
+bounded (suc w) s i bytes = let rest = bounded w s (i + 1) bytes in rw pow-succ' (omega (arith, bytes i))
+
+-- A byte more in front moves every number on.
+shift : (w a : ℕ) (s : List ℕ) (i : ℕ) → numberAt w (a ∷ s) (suc i) ≡ numberAt w s i
+unfolding numberAt bytesOf
+shift zero a s i = refl
+shift (suc w) a s i = rw (suc-add i 1, shift w a s (i + 1))
+
+-- A number that its bytes can hold is read off them again.
+pub there : (w n : ℕ) → n < 256 ^ w → numberAt w (bytesOf w n) 0 ≡ n
+unfolding numberAt bytesOf
+there zero n h = omega arith
+there (suc w) n h =
+    let more : n < 256 * 256 ^ w = rw (← pow-succ' 256 w) h in
+    let rest = there w (n / 256) (omega arith) in
+    rw (shift w (n % 256) (bytesOf w (n / 256)) 0) (omega arith)
+
+-- Bytes are those of the number that stands there.
+pub back : (w : ℕ) (s : List ℕ) (i : ℕ) → Bytes s → i + w ≤ length s → bytesOf w (numberAt w s i) ++ drop (i + w) s ≡ drop i s
+unfolding Bytes numberAt bytesOf
+back zero s i bytes h = rw add-zero
+back (suc w) s i bytes h =
+    let low : (getD s i 0 + 256 * numberAt w s (i + 1)) % 256 ≡ getD s i 0 = omega (arith, bytes i) in
+    let high : (getD s i 0 + 256 * numberAt w s (i + 1)) / 256 ≡ numberAt w s (i + 1) = omega (arith, bytes i) in
+    let here : i < length s = omega arith in
+    let on : i + suc w ≡ i + 1 + w = omega arith in
+    rw (low, high, on, back w s (i + 1) bytes (omega arith), add-one, drop-cons s i 0)

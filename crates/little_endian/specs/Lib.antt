@@ -1,0 +1,2 @@
+-- What the contracts of `little_endian` cite.
+pub mod Number

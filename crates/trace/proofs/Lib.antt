@@ -1,0 +1,4 @@
+-- Laws that the functions' proofs cite, and the proofs of the theorems.
+pub mod Values
+pub mod Lengths
+pub mod Ranges

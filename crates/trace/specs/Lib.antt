@@ -1,0 +1,4 @@
+-- What the contracts of `trace` cite, and the statements of the theorems about it.
+pub mod Fields
+pub mod Bodies
+pub mod Kinds
