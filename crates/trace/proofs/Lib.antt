@@ -2,3 +2,5 @@
 pub mod Values
 pub mod Lengths
 pub mod Ranges
+pub mod Entries
+pub mod Shapes

@@ -37,7 +37,7 @@ kindsOf01 =
     ∷ []
 
 -- They fall in ranges: 1 to 2 thread, 16 to 19 non-bulk, 32 to 35 bulk.
-unfoldable pub inRanges : ℕ → Bool
+abbrev pub inRanges : ℕ → Bool
 inRanges kind = within 1 2 kind || within 16 19 kind || within 32 35 kind
 
 -- What a body says, where its length is its kind's.

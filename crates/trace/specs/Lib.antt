@@ -2,3 +2,5 @@
 pub mod Fields
 pub mod Bodies
 pub mod Kinds
+pub mod File
+pub mod Beginning

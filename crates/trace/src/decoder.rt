@@ -18,7 +18,7 @@ ghost use Rattle.trace.specs.declared.Item.the-variants.{Decoded};
 ghost use Rattle.trace.specs.declared.ElementType.the-variants.{B32};
 ghost use Rattle.trace.specs.declared.Operation.the-variants.{And};
 ghost use Rattle.trace.specs.Bodies.{checked, addressIn, threadMeant, loadIn, storeIn, modeOf, cacheOf, copyMeant, copyIn, bulkCopyIn, operations, types, reductionMeant, bulkReductionIn, waitIn, bulkWaitIn};
-ghost use Rattle.trace.specs.Kinds.{ofLength, decodeOf};
+ghost use Rattle.trace.specs.Kinds.{inRanges, ofLength, decodeOf};
 
 pub fn decode(kind: u8, body: &[u8]) -> Item
     ensures { λ r. ⌜ r ≡ decodeOf kind (now (body .entry)) ⌝ }
@@ -29,6 +29,13 @@ pub fn decode(kind: u8, body: &[u8]) -> Item
         32..=35 => bulk(kind, body),
         _ => Item::UnknownKind,
     }
+}
+
+// Whether a kind lies in one of the ranges.
+pub(crate) fn is_known(kind: u8) -> bool
+    ensures { λ r. ⌜ r ≡ inRanges kind ⌝ }
+{
+    (1 <= kind) & (kind <= 2) | (16 <= kind) & (kind <= 19) | (32 <= kind) & (kind <= 35)
 }
 
 fn thread(kind: u8, body: &[u8]) -> Item

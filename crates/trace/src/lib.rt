@@ -1,8 +1,15 @@
 // A trace file (document 01): what it records, and how any bytes come to be events or a refusal.
 mod decoder;
 mod fields;
+mod file;
 
 pub use decoder::decode;
+pub use file::Entry;
+pub use file::Header;
+pub use file::Shape;
+pub use file::entry_of;
+pub use file::item_at;
+pub use file::shape_of;
 
 // An address counts the bytes of one memory from 0. The two are numbers of different kinds: neither stands for the other.
 pub struct GlobalAddress(pub u32);

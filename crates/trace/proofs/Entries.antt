@@ -1,0 +1,33 @@
+-- What the first entries come to with one more, and what is held of a file.
+-- Assumes nothing.
+use Prim.Native.Nat.{ℕ, _+_, _-_, _≤_, _<_}
+use mathlib.Core.Path.{_≡_}
+use mathlib.Core.Bool.{_&&_}
+use mathlib.Core.List.{List}
+use native.Mathlib.Omega.{arith}
+use native.Mathlib.Numerals.{add-one}
+use lib.ListN.{length, take, drop}
+use borrow.Author.Tests.{le-leb, lt-leb}
+use Rattle.trace.specs.declared.file.Entry.{Entry}
+use Rattle.trace.specs.File.{entryZero, bodyLengthIn, entriesZero, bodyLengths}
+use Rattle.trace.specs.Kinds.{decodeOf}
+use Rattle.trace.specs.Beginning.{unheld, heldItem}
+
+pub more-lengths : (f : List ℕ) (i : ℕ) → bodyLengths f (i + 1) ≡ bodyLengths f i + bodyLengthIn f i
+unfolding bodyLengths
+more-lengths f i = rw add-one
+
+pub more-zero : (f : List ℕ) (i : ℕ) → entriesZero f (i + 1) ≡ (entriesZero f i && entryZero f i)
+unfolding entriesZero
+more-zero f i = rw add-one
+
+pub held : (f : List ℕ) (start : ℕ) (entry : Entry) → start + entry .length ≤ length f
+    → decodeOf (entry .kind) (take (start + entry .length - start) (drop start f)) ≡ heldItem f start entry
+unfolding heldItem
+held f start entry h =
+    let part : start + entry .length - start ≡ entry .length = omega arith in
+    rw (part, le-leb (start + entry .length) (length f) h)
+
+pub not-held : (f : List ℕ) (start : ℕ) (entry : Entry) → length f < start + entry .length → heldItem f start entry ≡ unheld (entry .kind)
+unfolding heldItem
+not-held f start entry h = rw (lt-leb (start + entry .length) (length f) h)

@@ -1,0 +1,61 @@
+-- What can be told of a file by its beginning and its length. Theorem `BeginningDecides` says that it is what the file says.
+use Prim.Native.Nat.{ℕ, zero, suc, _+_}
+use mathlib.Core.Bool.{Bool, true, false, cond}
+use mathlib.Core.List.{List, [], _∷_, _++_}
+use lib.Dec.{leb}
+use lib.ListN.{length, take, drop}
+use Rattle.trace.specs.declared.Item.{Item}
+use Rattle.trace.specs.declared.Item.the-variants.{Decoded, UnknownKind, WrongBodyLength, FieldNotAllowed}
+use Rattle.trace.specs.declared.file.Entry.{Entry}
+use Rattle.trace.specs.declared.file.Shape.{Shape}
+use Rattle.trace.specs.declared.file.Shape.the-variants.{Formed, Refused}
+use Rattle.trace.specs.Kinds.{inRanges, decodeOf, refusalOf}
+use Rattle.trace.specs.File.{entryAt, kindIn, bodyLengthIn, bodyStart, shapeOf, Contents, refused, recorded}
+
+-- The entry of event i; past the beginning's end, kind 0, which no event has.
+unfoldable pub entryIn : List ℕ → ℕ → Entry
+entryIn f i =
+    cond (leb (entryAt i + 4) (length f))
+    (record { kind = kindIn f i; length = bodyLengthIn f i })
+    (record { kind = 0; length = 0 })
+
+-- A body that the beginning does not hold to its end is longer than any kind's.
+abbrev pub unheld : ℕ → Item
+unheld kind = cond (inRanges kind) WrongBodyLength UnknownKind
+
+-- The item whose body starts at an index.
+unfoldable pub heldItem : List ℕ → ℕ → Entry → Item
+heldItem f start entry =
+    cond (leb (start + entry .length) (length f))
+    (decodeOf (entry .kind) (take (entry .length) (drop start f)))
+    (unheld (entry .kind))
+
+abbrev pub heldItemIn : List ℕ → ℕ → Item
+heldItemIn f i = heldItem f (bodyStart f i) (entryIn f i)
+
+unfoldable pub heldItems : List ℕ → ℕ → List Item
+heldItems f zero = []
+heldItems f (suc i) = heldItems f i ++ heldItemIn f i ∷ []
+
+-- The first of 5 to 7 that an item gets, with the items counted from i; no verdict where all decode.
+abbrev pub isDecoded : Item → Bool
+isDecoded (Decoded event) = true
+isDecoded UnknownKind = false
+isDecoded WrongBodyLength = false
+isDecoded FieldNotAllowed = false
+
+abbrev pub orFault : ℕ → List Item → Shape → Shape
+orFault i [] shape = shape
+orFault i (item ∷ items) shape = cond (isDecoded item) (orFault (i + 1) items shape) (Refused (refusalOf i item))
+
+-- The first of 2 to 7 that a file gets, or its header.
+abbrev pub checkedItems : List ℕ → Shape → Shape
+checkedItems f (Refused answer) = Refused answer
+checkedItems f (Formed header) = orFault 0 (heldItems f (header .events)) (Formed header)
+
+unfoldable pub checkOf : ℕ → List ℕ → ℕ → Shape
+checkOf limit f total = checkedItems f (shapeOf limit f total)
+
+abbrev pub checkedFile : Contents → Shape
+checkedFile (refused answer) = Refused answer
+checkedFile (recorded header items) = orFault 0 items (Formed header)
