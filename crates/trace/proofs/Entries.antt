@@ -9,9 +9,9 @@ use native.Mathlib.Numerals.{add-one}
 use lib.ListN.{length, take, drop}
 use borrow.Author.Tests.{le-leb, lt-leb}
 use Rattle.trace.specs.declared.file.Entry.{Entry}
-use Rattle.trace.specs.File.{entryZero, bodyLengthIn, entriesZero, bodyLengths}
+use Rattle.trace.specs.File.{entryAt, kindIn, entryZero, bodyLengthIn, entriesZero, bodyLengths}
 use Rattle.trace.specs.Kinds.{decodeOf}
-use Rattle.trace.specs.Beginning.{unheld, heldItem}
+use Rattle.trace.specs.Beginning.{entryIn, unheld, heldItem}
 
 pub more-lengths : (f : List ℕ) (i : ℕ) → bodyLengths f (i + 1) ≡ bodyLengths f i + bodyLengthIn f i
 unfolding bodyLengths
@@ -20,6 +20,11 @@ more-lengths f i = rw add-one
 pub more-zero : (f : List ℕ) (i : ℕ) → entriesZero f (i + 1) ≡ (entriesZero f i && entryZero f i)
 unfolding entriesZero
 more-zero f i = rw add-one
+
+-- An entry that is held is read whole.
+pub whole-entry : (f : List ℕ) (i : ℕ) → entryAt i + 4 ≤ length f → entryIn f i ≡ record { kind = kindIn f i; length = bodyLengthIn f i }
+unfolding entryIn
+whole-entry f i h = rw (le-leb (entryAt i + 4) (length f) h)
 
 pub held : (f : List ℕ) (start : ℕ) (entry : Entry) → start + entry .length ≤ length f
     → decodeOf (entry .kind) (take (start + entry .length - start) (drop start f)) ≡ heldItem f start entry

@@ -4,3 +4,4 @@ pub mod Lengths
 pub mod Ranges
 pub mod Entries
 pub mod Shapes
+pub mod Faults

@@ -1,7 +1,7 @@
 -- What can be told of a file by its beginning and its length. Theorem `BeginningDecides` says that it is what the file says.
-use Prim.Native.Nat.{ℕ, zero, suc, _+_}
+use Prim.Native.Nat.{ℕ, _+_}
 use mathlib.Core.Bool.{Bool, true, false, cond}
-use mathlib.Core.List.{List, [], _∷_, _++_}
+use mathlib.Core.List.{List, [], _∷_}
 use lib.Dec.{leb}
 use lib.ListN.{length, take, drop}
 use Rattle.trace.specs.declared.Item.{Item}
@@ -10,7 +10,7 @@ use Rattle.trace.specs.declared.file.Entry.{Entry}
 use Rattle.trace.specs.declared.file.Shape.{Shape}
 use Rattle.trace.specs.declared.file.Shape.the-variants.{Formed, Refused}
 use Rattle.trace.specs.Kinds.{inRanges, decodeOf, refusalOf}
-use Rattle.trace.specs.File.{entryAt, kindIn, bodyLengthIn, bodyStart, shapeOf, Contents, refused, recorded}
+use Rattle.trace.specs.File.{entryAt, kindIn, bodyLengthIn, bodyStart, shapeOf, firstItems, Contents, refused, recorded}
 
 -- The entry of event i; past the beginning's end, kind 0, which no event has.
 unfoldable pub entryIn : List ℕ → ℕ → Entry
@@ -33,10 +33,6 @@ heldItem f start entry =
 abbrev pub heldItemIn : List ℕ → ℕ → Item
 heldItemIn f i = heldItem f (bodyStart f i) (entryIn f i)
 
-unfoldable pub heldItems : List ℕ → ℕ → List Item
-heldItems f zero = []
-heldItems f (suc i) = heldItems f i ++ heldItemIn f i ∷ []
-
 -- The first of 5 to 7 that an item gets, with the items counted from i; no verdict where all decode.
 abbrev pub isDecoded : Item → Bool
 isDecoded (Decoded event) = true
@@ -51,7 +47,7 @@ orFault i (item ∷ items) shape = cond (isDecoded item) (orFault (i + 1) items 
 -- The first of 2 to 7 that a file gets, or its header.
 abbrev pub checkedItems : List ℕ → Shape → Shape
 checkedItems f (Refused answer) = Refused answer
-checkedItems f (Formed header) = orFault 0 (heldItems f (header .events)) (Formed header)
+checkedItems f (Formed header) = orFault 0 (firstItems (heldItemIn f) (header .events)) (Formed header)
 
 unfoldable pub checkOf : ℕ → List ℕ → ℕ → Shape
 checkOf limit f total = checkedItems f (shapeOf limit f total)

@@ -77,13 +77,13 @@ shapeOf limit f total =
     (first (isMemoryLength (headerIn f .global) && isMemoryLength (headerIn f .shared)) WrongMemoryLength
     (Formed (headerIn f)))))
 
--- An item for each of the first i events.
+-- The items of the first i events, in event order.
+unfoldable pub firstItems : (ℕ → Item) → ℕ → List Item
+firstItems item zero = []
+firstItems item (suc i) = firstItems item i ++ item i ∷ []
+
 abbrev pub itemIn : List ℕ → ℕ → Item
 itemIn f i = decodeOf (kindIn f i) (bodyIn f i)
-
-unfoldable pub itemsIn : List ℕ → ℕ → List Item
-itemsIn f zero = []
-itemsIn f (suc i) = itemsIn f i ++ itemIn f i ∷ []
 
 -- What a file says: the refusal of its shape (2, 3, 4), or its header and an item for each event.
 pub data Contents : Type 0 where
@@ -92,7 +92,7 @@ pub data Contents : Type 0 where
 
 abbrev pub contentsOf : List ℕ → Shape → Contents
 contentsOf f (Refused answer) = refused answer
-contentsOf f (Formed header) = recorded header (itemsIn f (header .events))
+contentsOf f (Formed header) = recorded header (firstItems (itemIn f) (header .events))
 
 unfoldable pub fileOf : ℕ → List ℕ → Contents
 fileOf limit f = contentsOf f (shapeOf limit f (length f))

@@ -8,6 +8,7 @@ use crate::Item;
 use crate::Mode;
 use crate::Operation;
 use crate::SharedAddress;
+use answer::Answer;
 use little_endian::eight_at;
 use little_endian::four_at;
 ghost use mathlib.Core.Path.{_≡_};
@@ -18,7 +19,7 @@ ghost use Rattle.trace.specs.declared.Item.the-variants.{Decoded};
 ghost use Rattle.trace.specs.declared.ElementType.the-variants.{B32};
 ghost use Rattle.trace.specs.declared.Operation.the-variants.{And};
 ghost use Rattle.trace.specs.Bodies.{checked, addressIn, threadMeant, loadIn, storeIn, modeOf, cacheOf, copyMeant, copyIn, bulkCopyIn, operations, types, reductionMeant, bulkReductionIn, waitIn, bulkWaitIn};
-ghost use Rattle.trace.specs.Kinds.{inRanges, ofLength, decodeOf};
+ghost use Rattle.trace.specs.Kinds.{inRanges, ofLength, decodeOf, refusalOf};
 
 pub fn decode(kind: u8, body: &[u8]) -> Item
     ensures { λ r. ⌜ r ≡ decodeOf kind (now (body .entry)) ⌝ }
@@ -28,6 +29,20 @@ pub fn decode(kind: u8, body: &[u8]) -> Item
         16..=19 => non_bulk(kind, body),
         32..=35 => bulk(kind, body),
         _ => Item::UnknownKind,
+    }
+}
+
+impl Item {
+    // Document 01's answer for the item as event `event` of a list: 5, 6 or 7, and no verdict where it decodes.
+    pub fn refusal(self, event: u32) -> Answer
+        ensures { λ r. ⌜ r ≡ refusalOf event self ⌝ }
+    {
+        match self {
+            Item::Decoded(_) => Answer::NoVerdict,
+            Item::UnknownKind => Answer::UnknownKind { event },
+            Item::WrongBodyLength => Answer::WrongBodyLength { event },
+            Item::FieldNotAllowed => Answer::FieldNotAllowed { event },
+        }
     }
 }
 

@@ -11,8 +11,9 @@ ghost use mathlib.Core.Path.{_≡_};
 ghost use Prim.Native.Nat.{_+_, _*_, _≤_, _<_};
 ghost use lib.ListN.{length};
 ghost use Rattle.answer.specs.Table.{eventLimit};
-ghost use Rattle.trace.specs.File.{eventsIn, headerIn, entryAt, entryZero, entriesZero, bodyLengths, isShape, shapeOf};
-ghost use Rattle.trace.specs.Beginning.{entryIn, unheld, heldItem, checkOf};
+ghost use Rattle.trace.specs.File.{eventsIn, headerIn, entryAt, entryZero, entriesZero, bodyLengths, isShape, shapeOf, firstItems};
+ghost use Rattle.trace.specs.declared.file.Shape.the-variants.{Formed};
+ghost use Rattle.trace.specs.Beginning.{entryIn, unheld, heldItem, heldItemIn, orFault, checkOf};
 
 const HEADER_LENGTH: usize = 12;
 
@@ -30,7 +31,7 @@ pub struct Header {
 // An event's kind and the length of its body.
 pub struct Entry {
     pub kind: u8,
-    pub length: usize,
+    pub length: u32,
 }
 
 pub enum Shape {
@@ -68,6 +69,36 @@ fn headed(beginning: &[u8], total: usize) -> Shape
     }
 }
 
+// The header of a file all of whose events decode, or the first of 2 to 7 that the file gets.
+pub fn check(beginning: &[u8], total: usize) -> Shape
+    ensures { λ r. ⌜ r ≡ checkOf eventLimit (now (beginning .entry)) total ⌝ }
+{
+    let shape = shape_of(beginning, total);
+    match shape {
+        Shape::Refused(_) => shape,
+        Shape::Formed(header) => check_items(beginning, header),
+    }
+}
+
+fn check_items(beginning: &[u8], header: Header) -> Shape
+    requires { ⌜ (header .events ≡ eventsIn (now beginning)) × (header .events ≤ eventLimit) × (entryAt (header .events) ≤ length (now beginning)) ⌝ }
+    ensures { λ r. ⌜ r ≡ orFault 0 (firstItems (heldItemIn (now (beginning .entry))) (header .events)) (Formed header) ⌝ }
+{
+    let events = header.events;
+    let mut start = entry_at(events);
+    let mut event: u32 = 0;
+    while event < events {
+        let entry = entry_of(beginning, event);
+        let item = item_at(beginning, start, entry);
+        let Item::Decoded(_) = item else {
+            return Shape::Refused(item.refusal(event));
+        };
+        start += entry.length as usize;
+        event += 1;
+    }
+    Shape::Formed(header)
+}
+
 // The entry of an event; where there is none, kind 0, which no event has.
 pub fn entry_of(beginning: &[u8], event: u32) -> Entry
     ensures { λ r. ⌜ r ≡ entryIn (now (beginning .entry)) event ⌝ }
@@ -76,7 +107,7 @@ pub fn entry_of(beginning: &[u8], event: u32) -> Entry
     if at + ENTRY_LENGTH <= beginning.len() {
         Entry {
             kind: beginning[at],
-            length: two_at(beginning, at + 2) as usize,
+            length: two_at(beginning, at + 2),
         }
     } else {
         Entry { kind: 0, length: 0 }
@@ -88,7 +119,7 @@ pub fn item_at(beginning: &[u8], start: usize, entry: Entry) -> Item
     ensures { λ r. ⌜ r ≡ heldItem (now (beginning .entry)) start entry ⌝ }
 {
     let kind = entry.kind;
-    let length = entry.length;
+    let length = entry.length as usize;
     if beginning.len() < start {
         return unheld(kind);
     }

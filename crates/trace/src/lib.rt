@@ -7,6 +7,8 @@ pub use decoder::decode;
 pub use file::Entry;
 pub use file::Header;
 pub use file::Shape;
+pub use file::check;
+pub use file::entry_at;
 pub use file::entry_of;
 pub use file::item_at;
 pub use file::shape_of;

@@ -26,9 +26,6 @@ add-two-at c = search needs
 two-at-requires : tie.Need-two-at-requires
 two-at-requires c κs = search needs
 
-cast-t12 : tie.Need-cast-t12
-cast-t12 c = search needs
-
 returns : tie.Need-returns
 unfolding entryIn
 returns c = rw (c .two-at .ensures .0, c .before .before .before .entry-at .ensures, le-leb (entryAt (c .before .before .before .before .before .args .event) + 4) (length (now (c .before .before .before .before .before .args .beginning))) (omega arith))
@@ -46,6 +43,5 @@ entry-of-spec =
     shared-slice-read-t9
     add-two-at
     two-at-requires
-    cast-t12
     returns
     returns-2)

@@ -7,6 +7,9 @@ use borrow.Author.Needs.{needs}
 use Rattle.trace.proofs.file.item_at.Statement.{statement}
 use Rattle.trace.proofs.file.item_at.Tie as tie
 
+cast-length : tie.Need-cast-length
+cast-length c = search needs
+
 unheld-requires : tie.Need-unheld-requires
 unheld-requires c κs = search needs
 
@@ -44,6 +47,7 @@ pub item-at-spec : {M : Type 1} → statement M
 item-at-spec =
     tie.close
     (tie.spec
+    cast-length
     unheld-requires
     returns
     sub-if2
