@@ -1,8 +1,8 @@
 -- Numbers in bytes, there and back, over any number of bytes.
 -- Assumes nothing.
 use Prim.Native.Nat.{ℕ, zero, suc, _+_, _*_, _/_, _%_, _^_, _≤_, _<_}
-use mathlib.Core.Path.{_≡_, refl}
-use mathlib.Core.List.{List, _∷_, _++_}
+use mathlib.Core.Path.{_≡_, refl, ap, _∙_}
+use mathlib.Core.List.{List, [], _∷_, _++_}
 use native.Mathlib.Omega.{arith}
 use native.Mathlib.Nat.{pow-succ', add-zero, zero-add, suc-add, mul-assoc}
 use native.Mathlib.Numerals.{add-one}
@@ -32,14 +32,24 @@ unfolding numberAt bytesOf
 shift zero a s i = refl
 shift (suc w) a s i = rw (suc-add i 1, shift w a s (i + 1))
 
--- A number that its bytes can hold is read off them again.
-pub there : (w n : ℕ) → n < 256 ^ w → numberAt w (bytesOf w n) 0 ≡ n
+-- A number that its bytes can hold is read off them again ..
+first : (w n : ℕ) (rest : List ℕ) → n < 256 ^ w → numberAt w (bytesOf w n ++ rest) 0 ≡ n
 unfolding numberAt bytesOf
-there zero n h = omega arith
-there (suc w) n h =
+first zero n rest h = omega arith
+first (suc w) n rest h =
     let more : n < 256 * 256 ^ w = rw (← pow-succ' 256 w) h in
-    let rest = there w (n / 256) (omega arith) in
-    rw (shift w (n % 256) (bytesOf w (n / 256)) 0) (omega arith)
+    let high = first w (n / 256) rest (omega arith) in
+    rw (shift w (n % 256) (bytesOf w (n / 256) ++ rest) 0) (omega arith)
+
+-- .. wherever they stand.
+pub there : (w n : ℕ) (before rest : List ℕ) → n < 256 ^ w → numberAt w (before ++ (bytesOf w n ++ rest)) (length before) ≡ n
+there w n [] rest h = first w n rest h
+there w n (b ∷ before) rest h = shift w b (before ++ (bytesOf w n ++ rest)) (length before) ∙ there w n before rest h
+
+pub length-bytes : (w n : ℕ) → length (bytesOf w n) ≡ w
+unfolding bytesOf
+length-bytes zero n = refl
+length-bytes (suc w) n = ap suc (length-bytes w (n / 256))
 
 -- Bytes are those of the number that stands there.
 pub back : (w : ℕ) (s : List ℕ) (i : ℕ) → Bytes s → i + w ≤ length s → bytesOf w (numberAt w s i) ++ drop (i + w) s ≡ drop i s

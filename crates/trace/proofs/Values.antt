@@ -12,6 +12,7 @@ use lib.Pow.{pow-add}
 use lib.Seq.{drop-append-le, drop-append-add}
 use borrow.Author.Tests.{eqb-true, eqb-false, eq-eqb, ne-eqb}
 use Rattle.little_endian.specs.Number.{bytesOf}
+use Rattle.little_endian.proofs.Widths.{length-bytes}
 use Rattle.trace.specs.Fields.{isZero, allZero, isValue}
 
 -- A number is zero where its lowest byte and the rest are.
@@ -45,11 +46,6 @@ past (suc s) (suc w) n h k =
     let more : n < 256 * 256 ^ w = rw (← pow-succ' 256 w) k in
     let eight : 8 * suc s ≡ 8 + 8 * s = omega arith in
     rw (eight, pow-add 2 8 (8 * s), ← div-div-eq-div-mul n 256 (2 ^ (8 * s))) (past s w (n / 256) (omega arith) (omega arith))
-
-length-bytes : (w n : ℕ) → length (bytesOf w n) ≡ w
-unfolding bytesOf
-length-bytes zero n = refl
-length-bytes (suc w) n = ap suc (length-bytes w (n / 256))
 
 -- Past the last byte there is none.
 pub past-all : (s w n : ℕ) → w ≤ s → true ≡ allZero (drop s (bytesOf w n))

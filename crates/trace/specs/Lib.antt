@@ -4,3 +4,5 @@ pub mod Bodies
 pub mod Kinds
 pub mod File
 pub mod Beginning
+pub mod Encoding
+pub mod Theorems

@@ -1,8 +1,8 @@
--- `trace::decoder::decode` meets its contract: a kind between the ranges has no row.
+-- `trace::decoder::decode` meets its contract: a kind outside the ranges is unknown.
 -- Assumes nothing.
 use mathlib.Core.Path.{sym}
 use native.Mathlib.Omega.{arith}
-use Rattle.trace.proofs.Ranges.{no-row}
+use Rattle.trace.proofs.Rows.{unknown-outside}
 use borrow.Author.Needs.{needs}
 use Rattle.trace.proofs.decoder.decode.Statement.{statement}
 use Rattle.trace.proofs.decoder.decode.Tie as tie
@@ -26,16 +26,16 @@ returns-3 : tie.Need-returns-3
 returns-3 c = search needs
 
 returns-4 : tie.Need-returns-4
-returns-4 c = sym (no-row _ _ (λ h k. omega arith) (λ h k. omega arith) (λ h k. omega arith))
+returns-4 c = sym (unknown-outside _ _ (λ h k. omega arith) (λ h k. omega arith) (λ h k. omega arith))
 
 returns-5 : tie.Need-returns-5
-returns-5 c = sym (no-row _ _ (λ h k. omega arith) (λ h k. omega arith) (λ h k. omega arith))
+returns-5 c = sym (unknown-outside _ _ (λ h k. omega arith) (λ h k. omega arith) (λ h k. omega arith))
 
 returns-6 : tie.Need-returns-6
-returns-6 c = sym (no-row _ _ (λ h k. omega arith) (λ h k. omega arith) (λ h k. omega arith))
+returns-6 c = sym (unknown-outside _ _ (λ h k. omega arith) (λ h k. omega arith) (λ h k. omega arith))
 
 returns-7 : tie.Need-returns-7
-returns-7 c = sym (no-row _ _ (λ h k. omega arith) (λ h k. omega arith) (λ h k. omega arith))
+returns-7 c = sym (unknown-outside _ _ (λ h k. omega arith) (λ h k. omega arith) (λ h k. omega arith))
 
 pub decode-spec : {M : Type 1} → statement M
 decode-spec =
