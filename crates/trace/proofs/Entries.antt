@@ -8,10 +8,10 @@ use native.Mathlib.Omega.{arith}
 use native.Mathlib.Numerals.{add-one}
 use lib.ListN.{length, take, drop}
 use borrow.Author.Tests.{le-leb, lt-leb}
-use Rattle.trace.specs.declared.file.Entry.{Entry}
+use Rattle.trace.specs.declared.Entry.{Entry}
 use Rattle.trace.specs.File.{entryAt, kindIn, entryZero, bodyLengthIn, entriesZero, bodyLengths}
-use Rattle.trace.specs.Kinds.{decodeOf}
-use Rattle.trace.specs.Beginning.{entryIn, unheld, heldItem}
+use Rattle.decoder.specs.Kinds.{decodeOf, overlong}
+use Rattle.trace.specs.Beginning.{entryIn, heldItem}
 
 pub more-lengths : (f : List ℕ) (i : ℕ) → bodyLengths f (i + 1) ≡ bodyLengths f i + bodyLengthIn f i
 unfolding bodyLengths
@@ -33,6 +33,6 @@ held f start entry h =
     let part : start + entry .length - start ≡ entry .length = omega arith in
     rw (part, le-leb (start + entry .length) (length f) h)
 
-pub not-held : (f : List ℕ) (start : ℕ) (entry : Entry) → length f < start + entry .length → heldItem f start entry ≡ unheld (entry .kind)
+pub not-held : (f : List ℕ) (start : ℕ) (entry : Entry) → length f < start + entry .length → heldItem f start entry ≡ overlong (entry .kind)
 unfolding heldItem
 not-held f start entry h = rw (lt-leb (start + entry .length) (length f) h)

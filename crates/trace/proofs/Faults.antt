@@ -4,22 +4,17 @@ use Prim.Native.Nat.{ℕ, zero, suc, _+_, _-_, _<_}
 use mathlib.Core.Path.{_≡_, refl, sym, ap, _∙_}
 use mathlib.Core.Bool.{Bool, true, false, _&&_, and-assoc, true≢false}
 use mathlib.Core.List.{List, [], _∷_, _++_, append-assoc, append-nil}
-use mathlib.Core.Logic.{⊎-elim}
 use native.Mathlib.Omega.{arith}
 use native.Mathlib.Nat.{add-zero, zero-add, add-suc}
 use native.Mathlib.Numerals.{add-one}
 use lib.ListN.{length, length-append}
-use denote.Enum.Declared.{tagOf}
-use types.Run.{OneOf}
 use Rattle.answer.proofs.Both.{both}
-use Rattle.trace.specs.declared.Item.{Item}
-use Rattle.trace.specs.declared.Item.the-variants.{Decoded, UnknownKind, WrongBodyLength, FieldNotAllowed}
-use Rattle.trace.specs.declared.file.Shape.{Shape}
-use Rattle.trace.specs.declared.file.Shape.the-variants.{Refused}
-use Rattle.trace.proofs.Item.{the-type}
+use Rattle.decoder.specs.declared.Item.{Item}
+use Rattle.trace.specs.declared.Shape.{Shape}
+use Rattle.trace.specs.declared.Shape.the-variants.{Refused}
 use Rattle.trace.specs.File.{firstItems}
-use Rattle.trace.specs.Kinds.{refusalOf}
-use Rattle.trace.specs.Beginning.{isDecoded, orFault}
+use Rattle.decoder.specs.Kinds.{refusalOf, isDecoded}
+use Rattle.trace.specs.Beginning.{orFault}
 
 -- Every item of a list decodes.
 abbrev pub allDecoded : List Item → Bool
@@ -81,10 +76,3 @@ none item n s decoded = rw (← append-nil (firstItems item n)) (goes-on 0 (firs
 pub one-more : (item : ℕ → Item) (i : ℕ) → allDecoded (firstItems item i) ≡ true → isDecoded (item i) ≡ true → allDecoded (firstItems item (i + 1)) ≡ true
 unfolding firstItems
 one-more item i decoded h = rw (add-one, all-append, decoded, h)
-
--- An item of another variant than the first does not decode.
-pub undecoded : (item : Item) → OneOf (1 ∷ 2 ∷ 3 ∷ []) (tagOf the-type item) → isDecoded item ≡ false
-undecoded (Decoded event) tag = absurd (⊎-elim (λ e. omega arith) (λ t. ⊎-elim (λ e. omega arith) (λ e. omega arith) t) tag)
-undecoded UnknownKind tag = refl
-undecoded WrongBodyLength tag = refl
-undecoded FieldNotAllowed tag = refl

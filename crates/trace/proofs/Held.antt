@@ -13,17 +13,17 @@ use borrow.Author.Tests.{leb-true, leb-false, eqb-true, le-leb, lt-leb}
 use Rattle.answer.proofs.Both.{both, all-three}
 use Rattle.answer.specs.declared.Answer.the-variants.{WrongShape, TooManyEvents, WrongMemoryLength}
 use Rattle.little_endian.specs.Number.{numberAt}
-use Rattle.trace.specs.declared.Item.{Item}
-use Rattle.trace.specs.declared.Item.the-variants.{UnknownKind, WrongBodyLength}
-use Rattle.trace.specs.declared.file.Header.{Header}
-use Rattle.trace.specs.declared.file.Shape.{Shape}
-use Rattle.trace.specs.declared.file.Shape.the-variants.{Formed, Refused}
-use Rattle.trace.specs.Kinds.{inRanges}
+use Rattle.decoder.specs.declared.Item.{Item}
+use Rattle.decoder.specs.declared.Item.the-variants.{UnknownKind, WrongBodyLength}
+use Rattle.trace.specs.declared.Header.{Header}
+use Rattle.trace.specs.declared.Shape.{Shape}
+use Rattle.trace.specs.declared.Shape.the-variants.{Formed, Refused}
+use Rattle.decoder.specs.Kinds.{inRanges, isDecoded, overlong}
 use Rattle.trace.specs.File.{eventsIn, headerIn, reservedZero, entryAt, kindIn, bodyLengthIn, entriesZero, bodyLengths, bodyStart, bodyIn, isShape, isMemoryLength, first, shapeOf, firstItems, itemIn, contentsOf, fileOf}
-use Rattle.trace.specs.Beginning.{unheld, heldItem, heldItemIn, isDecoded, orFault, checkedItems, checkOf, checkedFile}
+use Rattle.trace.specs.Beginning.{heldItem, heldItemIn, orFault, checkedItems, checkOf, checkedFile}
 use Rattle.trace.proofs.Entries.{more-lengths, whole-entry}
 use Rattle.trace.proofs.Faults.{allDecoded, all-append, goes-on, stops, length-first}
-use Rattle.trace.proofs.Rows.{long-body}
+use Rattle.decoder.proofs.Rows.{long-body}
 use Rattle.trace.proofs.Shapes.{formed, table-held}
 
 -- Body lengths only grow.
@@ -152,8 +152,9 @@ module _ (a b : ℕ → Item) where
 length-body : (f : List ℕ) (i : ℕ) → bodyStart f i + bodyLengthIn f i ≤ length f → length (bodyIn f i) ≡ bodyLengthIn f i
 length-body f i h = length-take-le (bodyLengthIn f i) (drop (bodyStart f i) f) (rw length-drop (omega arith))
 
-unheld-fault : (kind : ℕ) → isDecoded (unheld kind) ≡ false
-unheld-fault kind = go (inRanges kind) refl
+overlong-fault : (kind : ℕ) → isDecoded (overlong kind) ≡ false
+unfolding overlong
+overlong-fault kind = go (inRanges kind) refl
   where
     go : (t : Bool) → inRanges kind ≡ t → isDecoded (cond t WrongBodyLength UnknownKind) ≡ false
     go true e = refl
@@ -164,7 +165,7 @@ short-body : (f : List ℕ) (i : ℕ) → bodyStart f i + bodyLengthIn f i ≤ l
 short-body f i within decoded = go (leb (bodyLengthIn f i) 24) refl
   where
     long : 24 < bodyLengthIn f i → isDecoded (itemIn f i) ≡ false
-    long h = rw (long-body (kindIn f i) (bodyIn f i) (rw (length-body f i within) h)) (unheld-fault (kindIn f i))
+    long h = rw (long-body (kindIn f i) (bodyIn f i) (rw (length-body f i within) h)) (overlong-fault (kindIn f i))
 
     go : (t : Bool) → leb (bodyLengthIn f i) 24 ≡ t → bodyLengthIn f i ≤ 24
     go true e = leb-true (bodyLengthIn f i) 24 e

@@ -11,9 +11,9 @@ use borrow.Author.Tests.{le-leb, lt-leb, leb-true}
 use Rattle.answer.proofs.Both.{both}
 use Rattle.answer.specs.declared.Answer.{Answer}
 use Rattle.answer.specs.declared.Answer.the-variants.{WrongShape, TooManyEvents, WrongMemoryLength}
-use Rattle.trace.specs.declared.file.Header.{Header}
-use Rattle.trace.specs.declared.file.Shape.{Shape}
-use Rattle.trace.specs.declared.file.Shape.the-variants.{Formed, Refused}
+use Rattle.trace.specs.declared.Header.{Header}
+use Rattle.trace.specs.declared.Shape.{Shape}
+use Rattle.trace.specs.declared.Shape.the-variants.{Formed, Refused}
 use Rattle.trace.specs.File.{eventsIn, headerIn, entryAt, isShape, isMemoryLength, first, shapeOf}
 
 abbrev isFormed : Shape → Bool

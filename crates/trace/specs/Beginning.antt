@@ -1,15 +1,14 @@
 -- What can be told of a file by its beginning and its length. Theorem `BeginningDecides` says that it is what the file says.
 use Prim.Native.Nat.{ℕ, _+_}
-use mathlib.Core.Bool.{Bool, true, false, cond}
+use mathlib.Core.Bool.{cond}
 use mathlib.Core.List.{List, [], _∷_}
 use lib.Dec.{leb}
 use lib.ListN.{length, take, drop}
-use Rattle.trace.specs.declared.Item.{Item}
-use Rattle.trace.specs.declared.Item.the-variants.{Decoded, UnknownKind, WrongBodyLength, FieldNotAllowed}
-use Rattle.trace.specs.declared.file.Entry.{Entry}
-use Rattle.trace.specs.declared.file.Shape.{Shape}
-use Rattle.trace.specs.declared.file.Shape.the-variants.{Formed, Refused}
-use Rattle.trace.specs.Kinds.{inRanges, decodeOf, refusalOf}
+use Rattle.decoder.specs.declared.Item.{Item}
+use Rattle.trace.specs.declared.Entry.{Entry}
+use Rattle.trace.specs.declared.Shape.{Shape}
+use Rattle.trace.specs.declared.Shape.the-variants.{Formed, Refused}
+use Rattle.decoder.specs.Kinds.{decodeOf, refusalOf, isDecoded, overlong}
 use Rattle.trace.specs.File.{entryAt, kindIn, bodyLengthIn, bodyStart, shapeOf, firstItems, Contents, refused, recorded}
 
 -- The entry of event i; past the beginning's end, kind 0, which no event has.
@@ -19,27 +18,17 @@ entryIn f i =
     (record { kind = kindIn f i; length = bodyLengthIn f i })
     (record { kind = 0; length = 0 })
 
--- A body that the beginning does not hold to its end is longer than any kind's.
-abbrev pub unheld : ℕ → Item
-unheld kind = cond (inRanges kind) WrongBodyLength UnknownKind
-
--- The item whose body starts at an index.
+-- The item whose body starts at an index. A body that the beginning does not hold to its end is longer than any kind's.
 unfoldable pub heldItem : List ℕ → ℕ → Entry → Item
 heldItem f start entry =
     cond (leb (start + entry .length) (length f))
     (decodeOf (entry .kind) (take (entry .length) (drop start f)))
-    (unheld (entry .kind))
+    (overlong (entry .kind))
 
 abbrev pub heldItemIn : List ℕ → ℕ → Item
 heldItemIn f i = heldItem f (bodyStart f i) (entryIn f i)
 
 -- The first of 5 to 7 that an item gets, with the items counted from i; no verdict where all decode.
-abbrev pub isDecoded : Item → Bool
-isDecoded (Decoded event) = true
-isDecoded UnknownKind = false
-isDecoded WrongBodyLength = false
-isDecoded FieldNotAllowed = false
-
 abbrev pub orFault : ℕ → List Item → Shape → Shape
 orFault i [] shape = shape
 orFault i (item ∷ items) shape = cond (isDecoded item) (orFault (i + 1) items shape) (Refused (refusalOf i item))

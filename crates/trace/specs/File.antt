@@ -7,12 +7,12 @@ use lib.ListN.{length, getD, take, drop}
 use Rattle.little_endian.specs.Number.{numberAt}
 use Rattle.answer.specs.declared.Answer.{Answer}
 use Rattle.answer.specs.declared.Answer.the-variants.{WrongShape, TooManyEvents, WrongMemoryLength}
-use Rattle.trace.specs.declared.Item.{Item}
-use Rattle.trace.specs.declared.file.Header.{Header}
-use Rattle.trace.specs.declared.file.Shape.{Shape}
-use Rattle.trace.specs.declared.file.Shape.the-variants.{Formed, Refused}
-use Rattle.trace.specs.Fields.{isZero}
-use Rattle.trace.specs.Kinds.{decodeOf}
+use Rattle.decoder.specs.declared.Item.{Item}
+use Rattle.trace.specs.declared.Header.{Header}
+use Rattle.trace.specs.declared.Shape.{Shape}
+use Rattle.trace.specs.declared.Shape.the-variants.{Formed, Refused}
+use Rattle.event.specs.Fields.{isZero}
+use Rattle.decoder.specs.Kinds.{decodeOf}
 
 -- Bytes 0-1: number of events n. Bytes 2-3: zero. Bytes 4-7: global length. Bytes 8-11: shared length.
 abbrev pub eventsIn : List ℕ → ℕ

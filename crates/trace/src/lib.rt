@@ -1,102 +1,29 @@
-// A trace file (document 01): what it records, and how any bytes come to be events or a refusal.
-mod decoder;
-mod fields;
-mod file;
+// The trace file (document 01): header, table and bodies. A caller that holds only the beginning of a longer file hands that
+// over with the file's length; the whole file is a beginning too.
+mod items;
+mod table;
 
-pub use decoder::decode;
-pub use file::Entry;
-pub use file::Header;
-pub use file::Shape;
-pub use file::check;
-pub use file::entry_at;
-pub use file::entry_of;
-pub use file::item_at;
-pub use file::shape_of;
+use answer::Answer;
+pub use items::check;
+pub use items::entry_of;
+pub use items::item_at;
+pub use table::entry_at;
+pub use table::shape_of;
 
-// An address counts the bytes of one memory from 0. The two are numbers of different kinds: neither stands for the other.
-pub struct GlobalAddress(pub u32);
-
-pub struct SharedAddress(pub u32);
-
-// Where a load reads or a store writes.
-pub enum Address {
-    Global(GlobalAddress),
-    Shared(SharedAddress),
+// The number of events and the lengths of the two memories.
+pub struct Header {
+    pub events: u32,
+    pub global: u32,
+    pub shared: u32,
 }
 
-// What a copy reads of its source.
-pub enum Mode {
-    // cp-size bytes
-    Plain,
-    // as many bytes as its src-size says
-    SourceSize(u32),
-    // none
-    SourceIgnored,
+// An event's kind and the length of its body.
+pub struct Entry {
+    pub kind: u8,
+    pub length: u32,
 }
 
-pub enum Cache {
-    Ca,
-    Cg,
-}
-
-pub enum Operation {
-    And,
-    Or,
-    Xor,
-    Add,
-    Min,
-    Max,
-}
-
-pub enum ElementType {
-    B32,
-    U32,
-    S32,
-}
-
-// One recorded event, with all that its body says.
-pub enum Event {
-    Load {
-        address: Address,
-        size: u32,
-    },
-    // Of the sixteen value bytes, low holds the first eight and high the others, the lowest first.
-    Store {
-        address: Address,
-        size: u32,
-        low: u64,
-        high: u64,
-    },
-    Copy {
-        dst: SharedAddress,
-        src: GlobalAddress,
-        cp_size: u32,
-        mode: Mode,
-        cache: Cache,
-    },
-    Commit,
-    Wait(u32),
-    WaitAll,
-    BulkCopy {
-        dst: GlobalAddress,
-        src: SharedAddress,
-        size: u32,
-    },
-    BulkReduction {
-        dst: GlobalAddress,
-        src: SharedAddress,
-        size: u32,
-        operation: Operation,
-        element: ElementType,
-    },
-    BulkCommit,
-    BulkWait(u32),
-}
-
-// What a body of a kind decodes as: an event, or the first check that it fails.
-pub enum Item {
-    Decoded(Event),
-    UnknownKind,
-    WrongBodyLength,
-    FieldNotAllowed,
+pub enum Shape {
+    Formed(Header),
+    Refused(Answer),
 }

@@ -1,0 +1,2 @@
+-- What the contracts of `event` cite.
+pub mod Fields

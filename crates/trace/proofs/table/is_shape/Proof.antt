@@ -1,0 +1,45 @@
+-- `trace::table::is_shape` meets its contract: its tests are the definition's.
+-- Assumes nothing.
+use native.Mathlib.Omega.{arith}
+use borrow.Author.Tests.{le-leb, lt-leb}
+use denote.Ref.{now}
+use lib.ListN.{length}
+use Rattle.trace.specs.File.{eventsIn, entryAt, isShape}
+use borrow.Author.Needs.{needs}
+use Rattle.trace.proofs.table.is_shape.Statement.{statement}
+use Rattle.trace.proofs.table.is_shape.Tie as tie
+
+entry-at-requires : tie.Need-entry-at-requires
+entry-at-requires c κs = search needs
+
+returns : tie.Need-returns
+unfolding isShape
+returns c = let at = c .before .entry-at .ensures in rw (lt-leb (entryAt (eventsIn (now (c .before .before .before .args .beginning)))) (length (now (c .before .before .before .args .beginning))) (omega (arith, c .before .before .before .pre)))
+
+body-lengths-requires : tie.Need-body-lengths-requires
+body-lengths-requires c κs = search needs
+
+add-result : tie.Need-add-result
+add-result c = search needs
+
+two-at-requires : tie.Need-two-at-requires
+two-at-requires c κs = search needs
+
+entries-zero-requires : tie.Need-entries-zero-requires
+entries-zero-requires c κs = search needs
+
+returns-2 : tie.Need-returns-2
+unfolding isShape
+returns-2 c = rw (c .before .two-at .ensures .0, c .entries-zero .ensures, c .before .before .body-lengths .ensures .0, c .before .before .before .before .entry-at .ensures, c .before .before .before .before .before .before .pre .1, le-leb (entryAt (eventsIn (now (c .before .before .before .before .before .before .args .beginning)))) (length (now (c .before .before .before .before .before .before .args .beginning))) (omega (arith, c .before .before .before .before .before .before .pre)))
+
+pub is-shape-spec : {M : Type 1} → statement M
+is-shape-spec =
+    tie.close
+    (tie.spec
+    entry-at-requires
+    returns
+    body-lengths-requires
+    add-result
+    two-at-requires
+    entries-zero-requires
+    returns-2)
