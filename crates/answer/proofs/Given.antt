@@ -2,26 +2,34 @@
 -- Assumes nothing.
 use mathlib.Core.Path.{_≡_, sym, ap, _∙_}
 use mathlib.Core.Bool.{true, false≢true}
+use mathlib.Core.List.{[], _∷_}
 use native.Mathlib.Omega.{arith}
+use Rattle.little_endian.specs.Number.{numberAt, bytesOf}
+use Rattle.little_endian.proofs.Widths.{there}
 use Rattle.answer.specs.declared.Answer.{Answer}
 use Rattle.answer.specs.declared.Numbers.{Numbers}
 use Rattle.answer.specs.Numbers.{four, numbersOf, answerOf}
 use Rattle.answer.specs.Table.{fitNamed, fit}
-use Rattle.answer.specs.Sheet.{inOrder, laidOut, numbersAt, sheetOf, isSheet, readOf}
+use Rattle.answer.specs.Sheet.{twoEach, inOrder, laidOut, numbersAt, sheetOf, isSheet, readOf}
 use Rattle.answer.specs.Theorems.{Given}
 use Rattle.answer.proofs.Fitting.{named-again, has-row, held}
 use Rattle.answer.proofs.Reading.{read-sheet, parts, verdict, standing}
-use Rattle.answer.proofs.TwoBytes.{there, each-bytes}
+use Rattle.answer.proofs.TwoBytes.{each-bytes}
 
 -- Numbers that fit stand on their sheet again.
 laid-numbers : (n : Numbers) → fit n ≡ true → numbersAt (laidOut n) ≡ n
+unfolding bytesOf
 laid-numbers n h =
     let small = held n h .0 in
-    let code = has-row n h in
-    λ i. four (there (n .code) (omega arith) i) (there (n .event) (omega arith) i) (there (n .partner) (omega arith) i) (there (n .peak) (omega arith) i)
+    let row = has-row n h in
+    let event = there 2 (n .event) (twoEach (4 ∷ 8 ∷ [])) (twoEach (n .partner ∷ n .peak ∷ n .code ∷ [])) (omega arith) in
+    let partner = there 2 (n .partner) (twoEach (4 ∷ 8 ∷ n .event ∷ [])) (twoEach (n .peak ∷ n .code ∷ [])) (omega arith) in
+    let peak = there 2 (n .peak) (twoEach (4 ∷ 8 ∷ n .event ∷ n .partner ∷ [])) (twoEach (n .code ∷ [])) (omega arith) in
+    let code = there 2 (n .code) (twoEach (4 ∷ 8 ∷ n .event ∷ n .partner ∷ n .peak ∷ [])) [] (omega arith) in
+    λ i. four (code i) (event i) (partner i) (peak i)
 
 pub reads : (a : Answer) → fit (numbersOf a) ≡ true → readOf (sheetOf a) ≡ a
-unfolding isSheet
+unfolding isSheet numberAt bytesOf
 reads a h =
     let numbers = laid-numbers (numbersOf a) h in
     read-sheet (sheetOf a) (ap fit numbers ∙ h) ∙ ap answerOf numbers ∙ named-again a

@@ -7,11 +7,12 @@ use mathlib.Core.List.{List, [], _∷_}
 use native.Mathlib.Omega.{arith}
 use lib.ListN.{length, take, drop, length-drop}
 use borrow.Author.Tests.{le-leb}
+use Rattle.little_endian.specs.Number.{Bytes, numberAt, bytesOf}
 use Rattle.answer.specs.declared.Answer.the-variants.{NotWritten}
 use Rattle.answer.specs.Numbers.{numbersOf, answerOf}
 use Rattle.answer.specs.Table.{fitNamed, fit}
 use Rattle.answer.specs.Sheet.{twoEach, twoAt, laidOut, numbersAt, sheetOf, isSheet, readOf, isWritten, writeAnswer, writeLeaves}
-use Rattle.answer.specs.Theorems.{Bytes, Given, cut, NumbersTellApart, ReadsTheNumbers, ReadsBack, CutSheet, OtherLengths, OneSheet, WritesWhatIsGiven, KeepsTheRest, DocumentSheets}
+use Rattle.answer.specs.Theorems.{Given, cut, NumbersTellApart, ReadsTheNumbers, ReadsBack, CutSheet, OtherLengths, OneSheet, WritesWhatIsGiven, KeepsTheRest, DocumentSheets}
 use Rattle.answer.proofs.Cut.{cut-before-code, cut-after-code}
 use Rattle.answer.proofs.Fitting.{named-again, has-row}
 use Rattle.answer.proofs.Given.{reads, given-fits, fits-given}
@@ -29,7 +30,7 @@ unfolding ReadsTheNumbers
 readsTheNumbers s = (numbers-read s, read-no-sheet s)
 
 pub readsBack : ReadsBack
-unfolding ReadsBack
+unfolding ReadsBack bytesOf
 readsBack a out h =
     let test = tested-true a out h in
     ap (λ (s : List ℕ). readOf (take 12 s)) (written a out test .1) ∙ reads a (Writing.parts a out test .1)
@@ -39,7 +40,7 @@ unfolding OtherLengths
 otherLengths s h = read-no-sheet s (other-length s h)
 
 pub documentSheets : DocumentSheets
-unfolding DocumentSheets readOf isSheet fit fitNamed
+unfolding DocumentSheets numberAt readOf isSheet fit fitNamed
 documentSheets = (refl, refl)
 
 pub cutSheet : CutSheet
@@ -75,7 +76,7 @@ writesWhatIsGiven a out = (
     go false e h = not-written a out e .0
 
 pub keepsTheRest : KeepsTheRest
-unfolding KeepsTheRest
+unfolding KeepsTheRest bytesOf
 keepsTheRest a out = go (isWritten a out) refl
   where
     go : (t : Bool) → isWritten a out ≡ t

@@ -8,6 +8,7 @@ use native.Mathlib.Omega.{arith}
 use lib.Dec.{leb}
 use lib.ListN.{length, take, drop}
 use borrow.Author.Tests.{leb-true}
+use Rattle.little_endian.specs.Number.{bytesOf}
 use Rattle.answer.specs.declared.Answer.{Answer}
 use Rattle.answer.specs.declared.Answer.the-variants.{NotWritten}
 use Rattle.answer.specs.declared.Numbers.{Numbers}
@@ -52,8 +53,10 @@ module _ (answer : Answer) (out : List ℕ) where
 -- A copy of the whole sheet leaves the sheet, and the bytes past it.
 pub copied : (answer : Answer) (n : Numbers) (sheet out : List ℕ) → n ≡ numbersOf answer → sheet ≡ laidOut n
     → take (length sheet) sheet ++ drop (length sheet) out ≡ sheetOf answer ++ drop 12 out
+unfolding bytesOf
 copied answer n sheet out m h = rw (h, m)
 
 -- The sheet fits where the test holds.
 pub room : (n : Numbers) (fits : Bool) (sheet out : List ℕ) → (leb 12 (length out) && fits) ≡ true → sheet ≡ laidOut n → length sheet ≤ length out
+unfolding bytesOf
 room n fits sheet out h e = rw e (leb-true 12 (length out) (both (leb 12 (length out)) fits h .0))

@@ -1,9 +1,10 @@
 -- The verdict sheet: twelve bytes, table first, the code last.
-use Prim.Native.Nat.{ℕ, _+_, _*_, _/_, _%_}
+use Prim.Native.Nat.{ℕ}
 use mathlib.Core.Bool.{Bool, _&&_, cond}
 use mathlib.Core.List.{List, [], _∷_, _++_}
 use lib.Dec.{leb, eqb}
-use lib.ListN.{length, getD, drop}
+use lib.ListN.{length, drop}
+use Rattle.little_endian.specs.Number.{numberAt, bytesOf}
 use Rattle.answer.specs.declared.Answer.{Answer}
 use Rattle.answer.specs.declared.Answer.the-variants.{NoVerdict, Accepted, NotWritten}
 use Rattle.answer.specs.declared.Numbers.{Numbers}
@@ -13,11 +14,11 @@ use Rattle.answer.specs.Table.{fit}
 -- Numbers in two bytes each, little-endian.
 abbrev pub twoEach : List ℕ → List ℕ
 twoEach [] = []
-twoEach (n ∷ ns) = n % 256 ∷ n / 256 % 256 ∷ twoEach ns
+twoEach (n ∷ ns) = bytesOf 2 n ++ twoEach ns
 
 -- The number in the two bytes from index i on.
 abbrev pub twoAt : List ℕ → ℕ → ℕ
-twoAt s i = getD s i 0 + 256 * getD s (i + 1) 0
+twoAt s i = numberAt 2 s i
 
 -- The numbers on a sheet, in order: the table (body at 4, 8 long), then event, partner, peak and code.
 abbrev pub inOrder : Numbers → List ℕ

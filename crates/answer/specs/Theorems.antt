@@ -1,17 +1,14 @@
 -- What holds of answers and sheets. Each statement is a type; proofs/Theorems.antt proves it, as `readsBack : ReadsBack`.
-use Prim.Native.Nat.{ℕ, _-_, _≤_, _<_}
+use Prim.Native.Nat.{ℕ, _-_, _≤_}
 use mathlib.Core.Path.{_≡_}
 use mathlib.Core.Bool.{true, false}
 use mathlib.Core.List.{List, [], _∷_, _++_}
-use lib.ListN.{length, getD, take, drop, replicate}
+use lib.ListN.{length, take, drop, replicate}
+use Rattle.little_endian.specs.Number.{Bytes}
 use Rattle.answer.specs.declared.Answer.{Answer}
 use Rattle.answer.specs.declared.Answer.the-variants.{NoVerdict, Accepted, Clash, NotWritten}
 use Rattle.answer.specs.Numbers.{numbersOf}
 use Rattle.answer.specs.Sheet.{sheetOf, numbersAt, isSheet, readOf, done, writeAnswer, writeLeaves}
-
--- A list of bytes.
-unfoldable pub Bytes : List ℕ → Type 0
-Bytes s = (i : ℕ) → getD s i 0 < 256
 
 -- The reader gives this answer for some bytes, and it is a verdict.
 abbrev pub Given : Answer → Type 0

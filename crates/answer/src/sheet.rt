@@ -1,10 +1,10 @@
 // The verdict sheet: twelve bytes, table first, the code last.
 use crate::Answer;
 use crate::Numbers;
+use little_endian::two_at;
 ghost use mathlib.Core.Path.{_≡_};
 ghost use lib.ListN.{length};
-ghost use Prim.Native.Nat.{_+_, _<_};
-ghost use Rattle.answer.specs.Sheet.{twoAt, numbersAt, laidOut, readOf, writeAnswer, writeLeaves};
+ghost use Rattle.answer.specs.Sheet.{numbersAt, laidOut, readOf, writeAnswer, writeLeaves};
 
 pub const SHEET_LENGTH: usize = 12;
 
@@ -75,18 +75,4 @@ fn numbers_at(sheet: &[u8]) -> Numbers
         peak: two_at(sheet, 8),
         code: two_at(sheet, 10),
     }
-}
-
-// The number in the two bytes from index `at` on, little-endian.
-fn two_at(sheet: &[u8], at: usize) -> u32
-    requires { ⌜ at + 1 < length (now sheet) ⌝ }
-    ensures { λ r. ⌜ r ≡ twoAt (now (sheet .entry)) at ⌝ }
-{
-    wide(sheet[at]) + 256 * wide(sheet[at + 1])
-}
-
-fn wide(byte: u8) -> u32
-    ensures { λ r. ⌜ (r ≡ byte) × (r < 256) ⌝ }
-{
-    byte as u32
 }

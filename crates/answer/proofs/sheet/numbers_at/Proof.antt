@@ -18,7 +18,7 @@ two-at-requires-4 c κs = search needs
 
 returns : tie.Need-returns
 returns c =
-    rw (c .before .before .before .two-at .ensures, c .before .before .two-at2 .ensures, c .before .two-at3 .ensures, c .two-at4 .ensures)
+    rw (c .before .before .before .two-at .ensures .0, c .before .before .two-at2 .ensures .0, c .before .two-at3 .ensures .0, c .two-at4 .ensures .0)
 
 pub numbers-at-spec : {M : Type 1} → statement M
 numbers-at-spec =

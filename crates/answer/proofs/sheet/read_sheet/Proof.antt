@@ -17,7 +17,7 @@ outcome : (c : tie.After-fit) (t : Bool)
     → isSheet (now (c .before .before .before .before .before .before .args .sheet)) ≡ t
 outcome c t =
     let called = c .before .before .before in
-    tested _ _ _ _ _ t (called .before .if1 .left) (c .before .before .two-at .ensures) (c .before .two-at2 .ensures)
+    tested _ _ _ _ _ t (called .before .if1 .left) (c .before .before .two-at .ensures .0) (c .before .two-at2 .ensures .0)
     (called .numbers-at .ensures)
     (c .fit .ensures)
 
