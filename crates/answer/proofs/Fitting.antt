@@ -9,13 +9,14 @@ use native.Mathlib.Nat.{add-zero, zero-add, suc-add, add-suc, le-of-suc-le-suc, 
 use lib.Dec.{leb, ltb}
 use lib.ListN.{length, getD, List·getD-eq-default}
 use borrow.Author.Tests.{leb-true, ltb-true, eqb-true, leb-false}
+use Rattle.little_endian.specs.Number.{isZero}
 use Rattle.answer.specs.declared.Answer.{Answer}
 use Rattle.answer.specs.declared.Answer.the-variants.{NoVerdict, Accepted, WrongShape, TooManyEvents, WrongMemoryLength, UnknownKind, WrongBodyLength, FieldNotAllowed, Misaligned, OutOfRange, Clash, NoRoom, NotWritten}
 use Rattle.answer.specs.declared.Numbers.{Numbers}
 use Rattle.answer.specs.declared.table.Named.{Named}
 use Rattle.answer.specs.declared.table.Named.the-variants.{Unread, Nothing, Count, CountAndPeak, Event, EventAndPartner}
 use Rattle.answer.specs.Numbers.{four, numbersOf, cases, answerOf}
-use Rattle.answer.specs.Table.{eventLimit, isZero, rows, namedBy, fitNamed, fit}
+use Rattle.answer.specs.Table.{eventLimit, rows, namedBy, fitNamed, fit}
 use Rattle.answer.proofs.Both.{all-three}
 
 -- The numbers of an answer name it.

@@ -2,8 +2,9 @@
 use Prim.Native.Nat.{ℕ}
 use mathlib.Core.Bool.{Bool, false, _&&_}
 use mathlib.Core.List.{List, [], _∷_}
-use lib.Dec.{ltb, leb, eqb}
+use lib.Dec.{ltb, leb}
 use lib.ListN.{getD}
+use Rattle.little_endian.specs.Number.{isZero}
 use Rattle.answer.specs.declared.Numbers.{Numbers}
 use Rattle.answer.specs.declared.table.Named.{Named}
 use Rattle.answer.specs.declared.table.Named.the-variants.{Unread, Nothing, Count, CountAndPeak, Event, EventAndPartner}
@@ -31,9 +32,6 @@ rows =
 
 abbrev pub namedBy : ℕ → Named
 namedBy code = getD rows code Unread
-
-abbrev pub isZero : ℕ → Bool
-isZero n = eqb n 0
 
 -- Unnamed numbers are zero; event = n is at most the limit, an event under it; a partner is under its event, a peak at most the count.
 unfoldable pub fitNamed : Named → ℕ → ℕ → ℕ → Bool

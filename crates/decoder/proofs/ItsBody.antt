@@ -6,7 +6,7 @@ use mathlib.Core.Bool.{true, _&&_, _||_}
 use mathlib.Core.List.{List, [], _∷_, _++_}
 use lib.Dec.{leb, eqb}
 use lib.ListN.{getD}
-use Rattle.little_endian.specs.Number.{numberAt, bytesOf}
+use Rattle.little_endian.specs.Number.{isZero, numberAt, bytesOf}
 use Rattle.little_endian.proofs.Widths.{there}
 use Rattle.event.specs.declared.Address.{Address}
 use Rattle.event.specs.declared.Address.the-variants.{Global, Shared}
@@ -21,7 +21,7 @@ use Rattle.event.specs.declared.Mode.{Mode}
 use Rattle.event.specs.declared.Mode.the-variants.{Plain, SourceSize, SourceIgnored}
 use Rattle.event.specs.declared.Operation.{Operation}
 use Rattle.event.specs.declared.Operation.the-variants.{And, Or, Xor, Add, Min, Max}
-use Rattle.event.specs.Fields.{isZero, valueBytes, operationNumber, typeNumber, allowed}
+use Rattle.event.specs.Fields.{valueBytes, operationNumber, typeNumber, allowed}
 use Rattle.decoder.specs.Bodies.{checked, addressIn, threadMeant, modeOf, cacheOf, operations, types}
 use Rattle.decoder.specs.Kinds.{ofLength, decodeOf}
 use Rattle.decoder.specs.Encoding.{modeNumber, srcSizeOf, cacheNumber, offsetOf, thread, threeFours, kindOf, bodyOf, Fits}

@@ -11,14 +11,14 @@ use lib.ListN.{length, getD, drop, drop-of-length-le}
 use lib.Seq.{drop-cons}
 use borrow.Author.Tests.{leb-true, eqb-true, eqb-false}
 use Rattle.answer.proofs.Both.{both, all-three}
-use Rattle.little_endian.specs.Number.{Bytes, numberAt, bytesOf}
+use Rattle.little_endian.specs.Number.{isZero, Bytes, numberAt, bytesOf}
 use Rattle.little_endian.proofs.Widths.{bounded, back}
 use Rattle.event.specs.declared.ElementType.the-variants.{B32}
 use Rattle.event.specs.declared.Event.{Event}
 use Rattle.event.specs.declared.Event.the-variants.{Load, Store, Copy, Commit, Wait, WaitAll, BulkCopy, BulkReduction, BulkCommit, BulkWait}
 use Rattle.decoder.specs.declared.Item.the-variants.{Decoded}
 use Rattle.event.specs.declared.Operation.the-variants.{And}
-use Rattle.event.specs.Fields.{isZero, operationNumber, typeNumber, allowed}
+use Rattle.event.specs.Fields.{operationNumber, typeNumber, allowed}
 use Rattle.decoder.specs.Bodies.{byteAt, global, shared, checked, addressIn, threadMeant, loadIn, storeIn, modeOf, cacheOf, copyMeant, copyIn, bulkCopyIn, operations, types, reductionMeant, bulkReductionIn, waitIn, bulkWaitIn}
 use Rattle.decoder.specs.Kinds.{Row, kindsOf01, ofLength, decodeBy, decodeOf, isDecoded}
 use Rattle.decoder.proofs.Rows.{Every, none, and}

@@ -4,7 +4,7 @@ use mathlib.Core.Bool.{Bool, true, _&&_, _||_, cond}
 use mathlib.Core.List.{List, [], _∷_}
 use lib.Dec.{leb, eqb}
 use lib.ListN.{getD}
-use Rattle.little_endian.specs.Number.{numberAt}
+use Rattle.little_endian.specs.Number.{isZero, numberAt}
 use Rattle.event.specs.declared.Address.{Address}
 use Rattle.event.specs.declared.Address.the-variants.{Global, Shared}
 use Rattle.event.specs.declared.Cache.{Cache}
@@ -21,7 +21,7 @@ use Rattle.event.specs.declared.Mode.the-variants.{Plain, SourceSize, SourceIgn
 use Rattle.event.specs.declared.Operation.{Operation}
 use Rattle.event.specs.declared.Operation.the-variants.{And, Or, Xor, Add, Min, Max}
 use Rattle.event.specs.declared.SharedAddress.{SharedAddress}
-use Rattle.event.specs.Fields.{isZero, allowed}
+use Rattle.event.specs.Fields.{allowed}
 
 abbrev pub byteAt : List ℕ → ℕ → ℕ
 byteAt body i = getD body i 0

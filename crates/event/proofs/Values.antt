@@ -11,9 +11,9 @@ use lib.ListN.{length, drop, drop-of-length-le}
 use lib.Pow.{pow-add}
 use lib.Seq.{drop-append-le, drop-append-add}
 use borrow.Author.Tests.{eqb-true, eqb-false, eq-eqb, ne-eqb}
-use Rattle.little_endian.specs.Number.{bytesOf}
+use Rattle.little_endian.specs.Number.{isZero, bytesOf}
 use Rattle.little_endian.proofs.Widths.{length-bytes}
-use Rattle.event.specs.Fields.{isZero, allZero, isValue}
+use Rattle.event.specs.Fields.{allZero, isValue}
 
 -- A number is zero where its lowest byte and the rest are.
 low-and-rest : (n : ℕ) → (isZero (n % 256) && isZero (n / 256)) ≡ isZero n

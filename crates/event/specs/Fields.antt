@@ -4,7 +4,7 @@ use mathlib.Core.Bool.{Bool, true, not, _&&_, _||_}
 use mathlib.Core.List.{List, [], _∷_, _++_}
 use lib.Dec.{leb, eqb}
 use lib.ListN.{drop}
-use Rattle.little_endian.specs.Number.{bytesOf}
+use Rattle.little_endian.specs.Number.{isZero, bytesOf}
 use Rattle.event.specs.declared.Cache.{Cache}
 use Rattle.event.specs.declared.Cache.the-variants.{Ca, Cg}
 use Rattle.event.specs.declared.ElementType.{ElementType}
@@ -15,9 +15,6 @@ use Rattle.event.specs.declared.Mode.{Mode}
 use Rattle.event.specs.declared.Mode.the-variants.{Plain, SourceSize, SourceIgnored}
 use Rattle.event.specs.declared.Operation.{Operation}
 use Rattle.event.specs.declared.Operation.the-variants.{And, Or, Xor, Add, Min, Max}
-
-abbrev pub isZero : ℕ → Bool
-isZero n = eqb n 0
 
 -- From low to high.
 abbrev pub within : ℕ → ℕ → ℕ → Bool

@@ -1,7 +1,12 @@
 -- Numbers in bytes, the lowest byte first.
 use Prim.Native.Nat.{ℕ, zero, suc, _+_, _*_, _/_, _%_, _<_}
+use mathlib.Core.Bool.{Bool}
 use mathlib.Core.List.{List, [], _∷_}
+use lib.Dec.{eqb}
 use lib.ListN.{getD}
+
+abbrev pub isZero : ℕ → Bool
+isZero n = eqb n 0
 
 -- A list of bytes.
 unfoldable pub Bytes : List ℕ → Type 0

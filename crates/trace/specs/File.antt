@@ -4,14 +4,13 @@ use mathlib.Core.Bool.{Bool, true, _&&_, cond}
 use mathlib.Core.List.{List, [], _∷_, _++_}
 use lib.Dec.{leb, eqb}
 use lib.ListN.{length, getD, take, drop}
-use Rattle.little_endian.specs.Number.{numberAt}
+use Rattle.little_endian.specs.Number.{isZero, numberAt}
 use Rattle.answer.specs.declared.Answer.{Answer}
 use Rattle.answer.specs.declared.Answer.the-variants.{WrongShape, TooManyEvents, WrongMemoryLength}
 use Rattle.decoder.specs.declared.Item.{Item}
 use Rattle.trace.specs.declared.Header.{Header}
 use Rattle.trace.specs.declared.Shape.{Shape}
 use Rattle.trace.specs.declared.Shape.the-variants.{Formed, Refused}
-use Rattle.event.specs.Fields.{isZero}
 use Rattle.decoder.specs.Kinds.{decodeOf}
 
 -- Bytes 0-1: number of events n. Bytes 2-3: zero. Bytes 4-7: global length. Bytes 8-11: shared length.
