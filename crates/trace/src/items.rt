@@ -5,6 +5,7 @@ use crate::Shape;
 use crate::table::ENTRY_LENGTH;
 use crate::table::entry_at;
 use crate::table::shape_of;
+use answer::EVENT_LIMIT;
 use decoder::Item;
 use little_endian::two_at;
 ghost use mathlib.Core.Path.{_≡_};
@@ -14,6 +15,10 @@ ghost use Rattle.answer.specs.Table.{eventLimit};
 ghost use Rattle.trace.specs.declared.Shape.the-variants.{Formed};
 ghost use Rattle.trace.specs.File.{eventsIn, entryAt, firstItems};
 ghost use Rattle.trace.specs.Beginning.{entryIn, heldItem, heldItemIn, orFault, checkOf};
+
+// So many first bytes of a file decide, with its length, on `check`: the header, and for each event its entry and the
+// longest body.
+pub const ENOUGH: usize = 12 + 28 * (EVENT_LIMIT as usize);
 
 // The header of a file all of whose events decode, or the first of 2 to 7 that the file gets.
 pub fn check(beginning: &[u8], total: usize) -> Shape

@@ -4,6 +4,7 @@ mod items;
 mod table;
 
 use answer::Answer;
+pub use items::ENOUGH;
 pub use items::check;
 pub use items::entry_of;
 pub use items::item_at;

@@ -1,13 +1,13 @@
--- `lorvisk_sheet::put` is safe: at most ten digits and what ends them stand in the line.
+-- `line::put` is safe: at most ten digits and what ends them stand in the line.
 -- Assumes nothing.
 use borrow.Author.Needs.{needs}
 use native.Mathlib.Omega.{arith}
 use Prim.Native.Nat.{_≤_}
 use lib.ListN.{length-take, length-drop}
 use borrow.Rule.Slice.PartMut.{same-len-mid}
-use Rattle.lorvisk_sheet.proofs.Digits.{at-most-ten}
-use Rattle.lorvisk_sheet.proofs.put.Statement.{statement}
-use Rattle.lorvisk_sheet.proofs.put.Tie as tie
+use Rattle.line.proofs.Digits.{at-most-ten}
+use Rattle.line.proofs.put.Statement.{statement}
+use Rattle.line.proofs.put.Tie as tie
 
 decimal-requires : tie.Need-decimal-requires
 decimal-requires c κs = search needs
