@@ -17,11 +17,14 @@ store-requires c κs = search needs
 
 returns : tie.Need-returns
 unfolding decodeOf
-returns c = c .load .ensures ∙ sym (ap (λ (k : ℕ). decodeOf k (now (c .before .before .before .args .body))) (c .before .match .keys1))
+returns c =
+    c .load .ensures ∙ sym (ap (λ (k : ℕ). decodeOf k (now (c .before .before .before .args .body))) (c .before .match .keys1))
 
 returns-2 : tie.Need-returns-2
 unfolding decodeOf
-returns-2 c = let last : c .before .before .before .args .kind ≡ 2 = omega (arith, c .before .match .rest .1) in c .store .ensures ∙ sym (ap (λ (k : ℕ). decodeOf k (now (c .before .before .before .args .body))) last)
+returns-2 c =
+    let last : c .before .before .before .args .kind ≡ 2 = omega (arith, c .before .match .rest .1) in
+    c .store .ensures ∙ sym (ap (λ (k : ℕ). decodeOf k (now (c .before .before .before .args .body))) last)
 
 pub thread-spec : {M : Type 1} → statement M
 thread-spec = tie.close (tie.spec load-requires store-requires returns returns-2)

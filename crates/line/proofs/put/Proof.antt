@@ -38,7 +38,9 @@ add-line : tie.Need-add-line
 add-line c = omega (arith, ten (c .before .before .before .before .before))
 
 slice-write-line : tie.Need-slice-write-line
-slice-write-line c = rw (same-len-mid _ _ _ _ (c .before .before .copy .kept .1 .0)) (omega (arith, ten (c .before .before .before .before .before)))
+slice-write-line c =
+    rw (same-len-mid _ _ _ _ (c .before .before .copy .kept .1 .0))
+    (omega (arith, ten (c .before .before .before .before .before)))
 
 add-result : tie.Need-add-result
 add-result c = omega (arith, ten (c .before .before .before .before .before))

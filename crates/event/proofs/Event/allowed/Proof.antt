@@ -72,7 +72,13 @@ returns-2 c = rw (c .before .is-thread-size2 .ensures, c .is-value .ensures, c .
 
 returns-3 : tie.Need-returns-3
 unfolding allowed
-returns-3 c = rw (c .before .before .is-copy-size .ensures, c .before .is-mode .ensures, c .is-cache .ensures, c .before .before .before .before .self3 .given .1)
+returns-3 c =
+    rw (
+      c .before .before .is-copy-size .ensures,
+      c .before .is-mode .ensures,
+      c .is-cache .ensures,
+      c .before .before .before .before .self3 .given .1,
+    )
 
 returns-4 : tie.Need-returns-4
 unfolding allowed

@@ -18,7 +18,8 @@ enum-known-shape : tie.Need-enum-known-shape
 enum-known-shape c = search needs
 
 check-items-requires : tie.Need-check-items-requires
-check-items-requires c κs = counted eventLimit _ _ (c .before .shape .given .0 .0) (sym (c .before .before .before .shape-of .ensures) ∙ c .before .shape .given .1)
+check-items-requires c κs =
+    counted eventLimit _ _ (c .before .shape .given .0 .0) (sym (c .before .before .before .shape-of .ensures) ∙ c .before .shape .given .1)
 
 returns : tie.Need-returns
 unfolding checkOf
@@ -26,7 +27,8 @@ returns c = rw (← c .before .before .shape-of .ensures, c .enum-told .given .1
 
 returns-2 : tie.Need-returns-2
 unfolding checkOf
-returns-2 c = rw (c .check-items .ensures, ← c .before .before .before .before .shape-of .ensures, c .before .before .shape .given .1)
+returns-2 c =
+    rw (c .check-items .ensures, ← c .before .before .before .before .shape-of .ensures, c .before .before .shape .given .1)
 
 pub check-spec : {M : Type 1} → statement M
 check-spec =

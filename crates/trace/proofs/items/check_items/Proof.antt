@@ -47,10 +47,12 @@ refusal-requires c κs = search needs
 returns : tie.Need-returns Inv-loop μ-loop
 returns c =
     let f = now (c .before .before .before .before .before .before .before .before .args .beginning) in
-    let was = c .before .before .before .before .before .loop .inv in
-    let same : c .before .before .item-at .result ≡ heldItemIn f (c .before .before .before .before .before .loop .event) = rw (c .before .before .item-at .ensures, was .1, c .before .before .before .entry-of .ensures) in
+    let loop = c .before .before .before .before .before .loop in
+    let called = c .before .before .item-at in
+    let same : called .result ≡ heldItemIn f (loop .event) = rw (called .ensures, loop .inv .1, c .before .before .before .entry-of .ensures) in
     rw (c .refusal .ensures, same)
-    (sym (found (heldItemIn f) (c .before .before .before .before .before .loop .event) _ _ (omega arith) (was .2) (rw (← same) (undecoded (c .before .before .item-at .result) (c .before .match .keys2)))))
+    (sym (found (heldItemIn f) (loop .event) _ _ (omega arith) (loop .inv .2)
+    (rw (← same) (undecoded (called .result) (c .before .match .keys2)))))
 
 cast-start : tie.Need-cast-start Inv-loop μ-loop
 cast-start c = search needs
@@ -67,17 +69,20 @@ loop-less c = omega arith
 loop-again : tie.Need-loop-again Inv-loop μ-loop
 loop-again c =
     let f = now (c .before .before .before .before .before .before .before .before .before .args .beginning) in
-    let i = c .before .before .before .before .before .before .loop .event in
-    let was = c .before .before .before .before .before .before .loop .inv in
+    let loop = c .before .before .before .before .before .before .loop in
+    let i = loop .event in
     let entry = c .before .before .before .before .entry-of .ensures in
-    let same : c .before .before .before .item-at .result ≡ heldItemIn f i = rw (c .before .before .before .item-at .ensures, was .1, entry) in
+    let called = c .before .before .before .item-at in
+    let same : called .result ≡ heldItemIn f i = rw (called .ensures, loop .inv .1, entry) in
     let added = ap (λ (e : Entry). e .length) (entry ∙ whole-entry f i (omega arith)) in
     let more = more-lengths f i in
     let decoded : isDecoded (heldItemIn f i) ≡ true = rw (← same, c .before .enum-told .given .1) in
-    (omega arith, omega arith, one-more (heldItemIn f) i (was .2) decoded, omega arith)
+    (omega arith, omega arith, one-more (heldItemIn f) i (loop .inv .2) decoded, omega arith)
 
 returns-2 : tie.Need-returns-2 Inv-loop μ-loop
-returns-2 c = let last : c .before .loop .event ≡ c .before .before .before .before .args .header .events = omega arith in sym (none _ _ _ (rw (← last) (c .before .loop .inv .2)))
+returns-2 c =
+    let last : c .before .loop .event ≡ c .before .before .before .before .args .header .events = omega arith in
+    sym (none _ _ _ (rw (← last) (c .before .loop .inv .2)))
 
 pub check-items-spec : {M : Type 1} → statement M
 check-items-spec =

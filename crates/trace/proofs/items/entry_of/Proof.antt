@@ -28,11 +28,19 @@ two-at-requires c κs = search needs
 
 returns : tie.Need-returns
 unfolding entryIn
-returns c = rw (c .two-at .ensures .0, c .before .before .before .entry-at .ensures, le-leb (entryAt (c .before .before .before .before .before .args .event) + 4) (length (now (c .before .before .before .before .before .args .beginning))) (omega arith))
+returns c =
+    let start = c .before .before .before .before .before in
+    rw (
+      c .two-at .ensures .0,
+      c .before .before .before .entry-at .ensures,
+      le-leb (entryAt (start .args .event) + 4) (length (now (start .args .beginning))) (omega arith),
+    )
 
 returns-2 : tie.Need-returns-2
 unfolding entryIn
-returns-2 c = rw (lt-leb (entryAt (c .before .before .before .args .event) + 4) (length (now (c .before .before .before .args .beginning))) (omega arith))
+returns-2 c =
+    let start = c .before .before .before in
+    rw (lt-leb (entryAt (start .args .event) + 4) (length (now (start .args .beginning))) (omega arith))
 
 pub entry-of-spec : {M : Type 1} → statement M
 entry-of-spec =

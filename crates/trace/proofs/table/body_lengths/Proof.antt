@@ -11,7 +11,8 @@ use Rattle.trace.proofs.table.body_lengths.Statement.{statement}
 use Rattle.trace.proofs.table.body_lengths.Tie as tie
 
 abbrev Inv-loop : tie.InvT-loop
-Inv-loop beginning events lengths₀ event₀ lengths event = (event ≤ events) × (lengths ≡ bodyLengths beginning event) × (lengths ≤ 65535 * event)
+Inv-loop beginning events lengths₀ event₀ lengths event =
+    (event ≤ events) × (lengths ≡ bodyLengths beginning event) × (lengths ≤ 65535 * event)
 
 abbrev μ-loop : tie.MeasureT-loop
 μ-loop beginning events lengths₀ event₀ lengths event = events - event
@@ -48,7 +49,10 @@ loop-again c =
     (omega arith, rw (more, c .two-at .ensures .0, c .before .entry-at .ensures, was .1), omega arith)
 
 returns : tie.Need-returns Inv-loop μ-loop
-returns c = let last : c .before .loop .event ≡ c .before .before .before .args .events = omega arith in rw (← last) (c .before .loop .inv .1, c .before .loop .inv .2)
+returns c =
+    let last : c .before .loop .event ≡ c .before .before .before .args .events = omega arith in
+    rw (← last)
+    (c .before .loop .inv .1, c .before .loop .inv .2)
 
 pub body-lengths-spec : {M : Type 1} → statement M
 body-lengths-spec =

@@ -34,7 +34,10 @@ loop-again c =
     (omega arith, rw (more, c .entry-zero .ensures, c .before .before .loop .inv .1))
 
 returns : tie.Need-returns Inv-loop μ-loop
-returns c = let last : c .before .loop .event ≡ c .before .before .before .args .events = omega arith in rw (← last) (c .before .loop .inv .1)
+returns c =
+    let last : c .before .loop .event ≡ c .before .before .before .args .events = omega arith in
+    rw (← last)
+    (c .before .loop .inv .1)
 
 pub entries-zero-spec : {M : Type 1} → statement M
 entries-zero-spec =

@@ -15,19 +15,35 @@ header-in-requires : tie.Need-header-in-requires
 header-in-requires c κs = search needs
 
 returns : tie.Need-returns
-returns c = sym (too-many eventLimit _ _ (omega arith) (omega arith) (omega (arith, ap (λ (h : Header). h .events) (c .before .before .header-in .ensures))))
+returns c =
+    let events = ap (λ (h : Header). h .events) (c .before .before .header-in .ensures) in
+    sym (too-many eventLimit _ _ (omega arith) (omega arith) (omega arith))
 
 is-shape-requires : tie.Need-is-shape-requires
 is-shape-requires c κs = (omega arith, ap (λ (h : Header). h .events) (c .before .before .header-in .ensures))
 
 returns-2 : tie.Need-returns-2
-returns-2 c = by-tests eventLimit _ _ (c .before .before .before .before .header-in .result) false _ (omega arith) (omega arith) (c .before .before .before .before .header-in .ensures) (omega arith) (sym (not-true _ (c .if2 .taken)) ∙ c .before .is-shape .ensures) refl
+returns-2 c =
+    let header = c .before .before .before .before .header-in in
+    by-tests eventLimit _ _ (header .result) false _ (omega arith) (omega arith) (header .ensures) (omega arith)
+    (sym (not-true _ (c .if2 .taken)) ∙ c .before .is-shape .ensures)
+    refl
 
 returns-3 : tie.Need-returns-3
-returns-3 c = by-tests eventLimit _ _ (c .before .before .before .before .before .before .before .header-in .result) true true (omega arith) (omega arith) (c .before .before .before .before .before .before .before .header-in .ensures) (omega arith) (sym (not-false _ (c .before .before .before .if2 .left)) ∙ c .before .before .before .before .is-shape .ensures) (c .if3 .taken)
+returns-3 c =
+    let tested = c .before .before .before in
+    let header = tested .before .before .before .before .header-in in
+    by-tests eventLimit _ _ (header .result) true true (omega arith) (omega arith) (header .ensures) (omega arith)
+    (sym (not-false _ (tested .if2 .left)) ∙ tested .before .is-shape .ensures)
+    (c .if3 .taken)
 
 returns-4 : tie.Need-returns-4
-returns-4 c = by-tests eventLimit _ _ (c .before .before .before .before .before .before .before .header-in .result) true false (omega arith) (omega arith) (c .before .before .before .before .before .before .before .header-in .ensures) (omega arith) (sym (not-false _ (c .before .before .before .if2 .left)) ∙ c .before .before .before .before .is-shape .ensures) (c .if3 .left)
+returns-4 c =
+    let tested = c .before .before .before in
+    let header = tested .before .before .before .before .header-in in
+    by-tests eventLimit _ _ (header .result) true false (omega arith) (omega arith) (header .ensures) (omega arith)
+    (sym (not-false _ (tested .if2 .left)) ∙ tested .before .is-shape .ensures)
+    (c .if3 .left)
 
 pub headed-spec : {M : Type 1} → statement M
 headed-spec =

@@ -14,7 +14,11 @@ entry-at-requires c κs = search needs
 
 returns : tie.Need-returns
 unfolding isShape
-returns c = let at = c .before .entry-at .ensures in rw (lt-leb (entryAt (eventsIn (now (c .before .before .before .args .beginning)))) (length (now (c .before .before .before .args .beginning))) (omega (arith, c .before .before .before .pre)))
+returns c =
+    let start = c .before .before .before in
+    let f = now (start .args .beginning) in
+    let at = c .before .entry-at .ensures in
+    rw (lt-leb (entryAt (eventsIn f)) (length f) (omega (arith, start .pre)))
 
 body-lengths-requires : tie.Need-body-lengths-requires
 body-lengths-requires c κs = search needs
@@ -30,7 +34,17 @@ entries-zero-requires c κs = search needs
 
 returns-2 : tie.Need-returns-2
 unfolding isShape
-returns-2 c = rw (c .before .two-at .ensures .0, c .entries-zero .ensures, c .before .before .body-lengths .ensures .0, c .before .before .before .before .entry-at .ensures, c .before .before .before .before .before .before .pre .1, le-leb (entryAt (eventsIn (now (c .before .before .before .before .before .before .args .beginning)))) (length (now (c .before .before .before .before .before .before .args .beginning))) (omega (arith, c .before .before .before .before .before .before .pre)))
+returns-2 c =
+    let start = c .before .before .before .before .before .before in
+    let f = now (start .args .beginning) in
+    rw (
+      c .before .two-at .ensures .0,
+      c .entries-zero .ensures,
+      c .before .before .body-lengths .ensures .0,
+      c .before .before .before .before .entry-at .ensures,
+      start .pre .1,
+      le-leb (entryAt (eventsIn f)) (length f) (omega (arith, start .pre)),
+    )
 
 pub is-shape-spec : {M : Type 1} → statement M
 is-shape-spec =
