@@ -32,7 +32,8 @@ unfolding checked
 decoded e h = rw h
 
 -- Load and store begin alike.
-address-back : (address : Address) (size : ℕ) (rest : List ℕ) → offsetOf address < 256 ^ 4 → addressIn (thread address size ++ rest) ≡ address
+address-back : (address : Address) (size : ℕ) (rest : List ℕ) → offsetOf address < 256 ^ 4
+    → addressIn (thread address size ++ rest) ≡ address
 unfolding bytesOf
 address-back (Global at) size rest fits = rw (there 4 (at .0) (0 ∷ size ∷ 0 ∷ 0 ∷ []) rest fits)
 address-back (Shared at) size rest fits = rw (there 4 (at .0) (1 ∷ size ∷ 0 ∷ 0 ∷ []) rest fits)

@@ -256,7 +256,8 @@ all-sound =
     (and (λ body e bytes n h. empty-sound 34 BulkCommit refl refl refl tt body e n h)
     (and bulk-wait-sound none)))))))))
 
-of-length : (r : Row) → Sound r → (body : List ℕ) (e : Event) → Bytes body → ofLength (r .bodyLength) (r .says) body ≡ Decoded e → Said (r .kind) body e
+of-length : (r : Row) → Sound r → (body : List ℕ) (e : Event) → Bytes body
+    → ofLength (r .bodyLength) (r .says) body ≡ Decoded e → Said (r .kind) body e
 unfolding ofLength
 of-length r sound body e bytes h = go (eqb (length body) (r .bodyLength)) refl
   where
@@ -264,7 +265,8 @@ of-length r sound body e bytes h = go (eqb (length body) (r .bodyLength)) refl
     go true t = sound body e bytes (eqb-true (length body) (r .bodyLength) t) (rw t at h)
     go false t = absurd (false≢true (ap isDecoded (rw t at h)))
 
-of-rows : (rows : List Row) → Every Sound rows → (kind : ℕ) (body : List ℕ) (e : Event) → Bytes body → decodeBy rows kind body ≡ Decoded e → Said kind body e
+of-rows : (rows : List Row) → Every Sound rows → (kind : ℕ) (body : List ℕ) (e : Event) → Bytes body
+    → decodeBy rows kind body ≡ Decoded e → Said kind body e
 of-rows [] none kind body e bytes h = absurd (false≢true (ap isDecoded h))
 of-rows (r ∷ rows) (and sound others) kind body e bytes h = go (eqb kind (r .kind)) refl (of-rows rows others kind body e bytes)
   where

@@ -90,7 +90,8 @@ pub unknown : (kind : ℕ) (body : List ℕ) → inRanges kind ≡ false → dec
 unfolding decodeOf
 unknown kind body h = no-row kindsOf01 kind body (ranges kind ∙ h)
 
-pub unknown-outside : (kind : ℕ) (body : List ℕ) → Outside 1 2 kind → Outside 16 19 kind → Outside 32 35 kind → decodeOf kind body ≡ UnknownKind
+pub unknown-outside : (kind : ℕ) (body : List ℕ) → Outside 1 2 kind → Outside 16 19 kind → Outside 32 35 kind
+    → decodeOf kind body ≡ UnknownKind
 unknown-outside kind body thread nonBulk bulk = unknown kind body (outside kind thread nonBulk bulk)
 
 -- No row says that its kind is unknown.
@@ -124,7 +125,8 @@ all-know =
     (and (λ body. refl)
     (and (λ body. refl) none)))))))))
 
-known : (rows : List Row) → Every Knows rows → (kind : ℕ) (body : List ℕ) → hasRow rows kind ≡ true → isUnknown (decodeBy rows kind body) ≡ false
+known : (rows : List Row) → Every Knows rows → (kind : ℕ) (body : List ℕ) → hasRow rows kind ≡ true
+    → isUnknown (decodeBy rows kind body) ≡ false
 unfolding ofLength
 known [] none kind body h = absurd (false≢true h)
 known (r ∷ rows) (and knows others) kind body h = go (eqb kind (r .kind)) refl (known rows others kind body)

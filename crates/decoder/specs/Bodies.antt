@@ -32,7 +32,7 @@ global n = record { 0 = n }
 abbrev pub shared : ℕ → SharedAddress
 shared n = record { 0 = n }
 
--- A body has its event where each byte has a meaning and the event's fields are allowed.
+-- The event of a body whose every byte has a meaning, where its fields are allowed.
 unfoldable pub checked : Bool → Event → Item
 checked meant event = cond (meant && allowed event) (Decoded event) FieldNotAllowed
 
@@ -51,7 +51,8 @@ abbrev pub storeIn : List ℕ → Item
 storeIn body =
     checked (threadMeant body) (Store (addressIn body) (byteAt body 1) (numberAt 8 body 8) (numberAt 8 body 16))
 
--- Copy, 16: dst (4), src (4), src-size (4), cp-size, mode, cache, zero. Mode 0 plain, 1 src-size given, 2 source ignored; cache 0 (.ca) or 1 (.cg).
+-- Copy, 16: dst (4), src (4), src-size (4), cp-size, mode, cache, zero.
+-- Mode 0 plain, 1 src-size given, 2 source ignored; cache 0 (.ca) or 1 (.cg).
 unfoldable pub modeOf : ℕ → ℕ → Mode
 modeOf mode srcSize = getD (Plain ∷ SourceSize srcSize ∷ []) mode SourceIgnored
 
@@ -61,7 +62,10 @@ cacheOf cache = cond (isZero cache) Ca Cg
 -- In modes 0 and 2 the src-size field is zero.
 abbrev pub copyMeant : List ℕ → Bool
 copyMeant body =
-    leb (byteAt body 13) 2 && (eqb (byteAt body 13) 1 || isZero (numberAt 4 body 8)) && leb (byteAt body 14) 1 && isZero (byteAt body 15)
+    leb (byteAt body 13) 2
+    && (eqb (byteAt body 13) 1 || isZero (numberAt 4 body 8))
+    && leb (byteAt body 14) 1
+    && isZero (byteAt body 15)
 
 abbrev pub copyIn : List ℕ → Item
 copyIn body =
@@ -75,7 +79,7 @@ abbrev pub bulkCopyIn : List ℕ → Item
 bulkCopyIn body =
     checked true (BulkCopy (global (numberAt 4 body 0)) (shared (numberAt 4 body 4)) (numberAt 4 body 8))
 
--- Bulk reduction, 16: dst, src, size, operation, type, two zeros.
+-- Bulk reduction, 16: dst, src, size, operation, type, two zeros. A number past either list has no meaning (`reductionMeant`).
 abbrev pub operations : List Operation
 operations = And ∷ Or ∷ Xor ∷ Add ∷ Min ∷ Max ∷ []
 

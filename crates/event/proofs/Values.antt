@@ -56,7 +56,8 @@ zero-append [] ys = refl
 zero-append (x ∷ xs) ys = rw (and-assoc, zero-append xs ys)
 
 -- A size of less than eight leaves bytes of both halves, a larger one of the second alone.
-pub both-halves : (size low high : ℕ) → size < 8 → (allZero (drop size (bytesOf 8 low)) && allZero (bytesOf 8 high)) ≡ isValue size low high
+pub both-halves : (size low high : ℕ) → size < 8
+    → (allZero (drop size (bytesOf 8 low)) && allZero (bytesOf 8 high)) ≡ isValue size low high
 unfolding isValue
 both-halves size low high h =
     let short : size ≤ length (bytesOf 8 low) = rw (length-bytes 8 low) (omega arith) in

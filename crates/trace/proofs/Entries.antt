@@ -22,7 +22,8 @@ unfolding entriesZero
 more-zero f i = rw add-one
 
 -- An entry that is held is read whole.
-pub whole-entry : (f : List ℕ) (i : ℕ) → entryAt i + 4 ≤ length f → entryIn f i ≡ record { kind = kindIn f i; length = bodyLengthIn f i }
+pub whole-entry : (f : List ℕ) (i : ℕ) → entryAt i + 4 ≤ length f
+    → entryIn f i ≡ record { kind = kindIn f i; length = bodyLengthIn f i }
 unfolding entryIn
 whole-entry f i h = rw (le-leb (entryAt i + 4) (length f) h)
 
@@ -33,6 +34,7 @@ held f start entry h =
     let part : start + entry .length - start ≡ entry .length = omega arith in
     rw (part, le-leb (start + entry .length) (length f) h)
 
-pub not-held : (f : List ℕ) (start : ℕ) (entry : Entry) → length f < start + entry .length → heldItem f start entry ≡ overlong (entry .kind)
+pub not-held : (f : List ℕ) (start : ℕ) (entry : Entry) → length f < start + entry .length
+    → heldItem f start entry ≡ overlong (entry .kind)
 unfolding heldItem
 not-held f start entry h = rw (lt-leb (start + entry .length) (length f) h)

@@ -26,7 +26,8 @@ all-append [] ys = refl
 all-append (x ∷ xs) ys = rw (and-assoc, all-append xs ys)
 
 -- Past items that decode, the search goes on.
-pub goes-on : (i : ℕ) (xs ys : List Item) (s : Shape) → allDecoded xs ≡ true → orFault i (xs ++ ys) s ≡ orFault (i + length xs) ys s
+pub goes-on : (i : ℕ) (xs ys : List Item) (s : Shape) → allDecoded xs ≡ true
+    → orFault i (xs ++ ys) s ≡ orFault (i + length xs) ys s
 goes-on i [] ys s h = rw add-zero
 goes-on i (x ∷ xs) ys s h =
     let t = both (isDecoded x) (allDecoded xs) h in
@@ -73,6 +74,7 @@ pub none : (item : ℕ → Item) (n : ℕ) (s : Shape) → allDecoded (firstItem
 none item n s decoded = rw (← append-nil (firstItems item n)) (goes-on 0 (firstItems item n) [] s decoded)
 
 -- One item more decodes with the others.
-pub one-more : (item : ℕ → Item) (i : ℕ) → allDecoded (firstItems item i) ≡ true → isDecoded (item i) ≡ true → allDecoded (firstItems item (i + 1)) ≡ true
+pub one-more : (item : ℕ → Item) (i : ℕ) → allDecoded (firstItems item i) ≡ true → isDecoded (item i) ≡ true
+    → allDecoded (firstItems item (i + 1)) ≡ true
 unfolding firstItems
 one-more item i decoded h = rw (add-one, all-append, decoded, h)

@@ -45,7 +45,8 @@ inside f i h few =
     omega arith
 
 -- A file that is held whole has its own items.
-pub held-whole : (limit : ℕ) (f : List ℕ) (h : Header) (i : ℕ) → shapeOf limit f (length f) ≡ Formed h → i < h .events → heldItemIn f i ≡ itemIn f i
+pub held-whole : (limit : ℕ) (f : List ℕ) (h : Header) (i : ℕ) → shapeOf limit f (length f) ≡ Formed h → i < h .events
+    → heldItemIn f i ≡ itemIn f i
 unfolding heldItem
 held-whole limit f h i e few =
     let p = formed limit (length f) f h e in
@@ -96,7 +97,8 @@ part-there (suc s) n (suc k) [] h = refl
 part-there (suc s) n (suc k) (b ∷ f) h = part-there s n k f (omega arith)
 
 -- The first bytes decide on the shape.
-pub shape-decided : (limit k : ℕ) (f : List ℕ) → 12 + 28 * limit ≤ k → shapeOf limit (take k f) (length f) ≡ shapeOf limit f (length f)
+pub shape-decided : (limit k : ℕ) (f : List ℕ) → 12 + 28 * limit ≤ k
+    → shapeOf limit (take k f) (length f) ≡ shapeOf limit f (length f)
 unfolding shapeOf
 shape-decided limit k f h =
     rw (
@@ -114,7 +116,8 @@ shape-decided limit k f h =
         (first shape WrongShape
         (first (isMemoryLength (headerIn f .global) && isMemoryLength (headerIn f .shared)) WrongMemoryLength (Formed (headerIn f)))))
 
-    go : (t : Bool) → leb (eventsIn f) limit ≡ t → checks (leb (eventsIn f) limit) (isShape (take k f) (length f)) ≡ checks (leb (eventsIn f) limit) (isShape f (length f))
+    go : (t : Bool) → leb (eventsIn f) limit ≡ t
+        → checks (leb (eventsIn f) limit) (isShape (take k f) (length f)) ≡ checks (leb (eventsIn f) limit) (isShape f (length f))
     go true e = ap (checks (leb (eventsIn f) limit)) (shape-there k f (length f) (omega (arith, leb-true (eventsIn f) limit e)))
     go false e = rw e
 
@@ -161,7 +164,8 @@ overlong-fault kind = go (inRanges kind) refl
     go false e = refl
 
 -- A body that decodes has at most 24 bytes.
-short-body : (f : List ℕ) (i : ℕ) → bodyStart f i + bodyLengthIn f i ≤ length f → isDecoded (itemIn f i) ≡ true → bodyLengthIn f i ≤ 24
+short-body : (f : List ℕ) (i : ℕ) → bodyStart f i + bodyLengthIn f i ≤ length f → isDecoded (itemIn f i) ≡ true
+    → bodyLengthIn f i ≤ 24
 short-body f i within decoded = go (leb (bodyLengthIn f i) 24) refl
   where
     long : 24 < bodyLengthIn f i → isDecoded (itemIn f i) ≡ false
@@ -171,7 +175,8 @@ short-body f i within decoded = go (leb (bodyLengthIn f i) 24) refl
     go true e = leb-true (bodyLengthIn f i) 24 e
     go false e = absurd (true≢false (sym decoded ∙ long (leb-false (bodyLengthIn f i) 24 e)))
 
-short-bodies : (f : List ℕ) (i : ℕ) → isShape f (length f) ≡ true → i ≤ eventsIn f → allDecoded (firstItems (itemIn f) i) ≡ true → bodyLengths f i ≤ 24 * i
+short-bodies : (f : List ℕ) (i : ℕ) → isShape f (length f) ≡ true → i ≤ eventsIn f
+    → allDecoded (firstItems (itemIn f) i) ≡ true → bodyLengths f i ≤ 24 * i
 unfolding bodyLengths firstItems
 short-bodies f zero shape few decoded = omega arith
 short-bodies f (suc i) shape few decoded =
@@ -200,7 +205,8 @@ module _ (limit k : ℕ) (f : List ℕ) (i : ℕ) (enough : 12 + 28 * limit ≤ 
       (sym (long-body (kindIn f i) (bodyIn f i) (rw (length-body f i within) long)))
 
 -- Up to the first item that does not decode, the beginning has the file's items.
-pub item-there : (limit k : ℕ) (f : List ℕ) (h : Header) (i : ℕ) → 12 + 28 * limit ≤ k → shapeOf limit f (length f) ≡ Formed h → i < h .events
+pub item-there : (limit k : ℕ) (f : List ℕ) (h : Header) (i : ℕ) → 12 + 28 * limit ≤ k → shapeOf limit f (length f) ≡ Formed h
+    → i < h .events
     → allDecoded (firstItems (itemIn f) i) ≡ true
     → heldItemIn (take k f) i ≡ itemIn f i
 item-there limit k f h i enough e few decoded =
@@ -219,7 +225,8 @@ item-there limit k f h i enough e few decoded =
     )
     (reached limit k f i enough most (omega arith) within short (leb (bodyStart f i + bodyLengthIn f i) k) refl)
 
-pub check-decided : (limit k : ℕ) (f : List ℕ) → 12 + 28 * limit ≤ k → checkOf limit (take k f) (length f) ≡ checkedFile (fileOf limit f)
+pub check-decided : (limit k : ℕ) (f : List ℕ) → 12 + 28 * limit ≤ k
+    → checkOf limit (take k f) (length f) ≡ checkedFile (fileOf limit f)
 unfolding checkOf fileOf
 check-decided limit k f enough = rw (shape-decided limit k f enough) (go (shapeOf limit f (length f)) refl)
   where

@@ -21,7 +21,8 @@ isFormed (Formed header) = true
 isFormed (Refused answer) = false
 
 -- What comes after a check is the shape only where the check passes.
-passed : (t : Bool) (answer : Answer) (later : Shape) (h : Header) → first t answer later ≡ Formed h → (t ≡ true) × (later ≡ Formed h)
+passed : (t : Bool) (answer : Answer) (later : Shape) (h : Header) → first t answer later ≡ Formed h
+    → (t ≡ true) × (later ≡ Formed h)
 passed true answer later h e = (refl, e)
 passed false answer later h e = absurd (false≢true (ap isFormed e))
 

@@ -18,7 +18,7 @@ entryIn f i =
     (record { kind = kindIn f i; length = bodyLengthIn f i })
     (record { kind = 0; length = 0 })
 
--- The item whose body starts at an index. A body that the beginning does not hold to its end is longer than any kind's.
+-- The item whose body starts at an index. A body that is not held to its end is taken for one that is longer than any kind's.
 unfoldable pub heldItem : List ℕ → ℕ → Entry → Item
 heldItem f start entry =
     cond (leb (start + entry .length) (length f))
@@ -28,7 +28,7 @@ heldItem f start entry =
 abbrev pub heldItemIn : List ℕ → ℕ → Item
 heldItemIn f i = heldItem f (bodyStart f i) (entryIn f i)
 
--- The first of 5 to 7 that an item gets, with the items counted from i; no verdict where all decode.
+-- The first of 5 to 7 that an item gets, with the items counted from i; the shape where all decode.
 abbrev pub orFault : ℕ → List Item → Shape → Shape
 orFault i [] shape = shape
 orFault i (item ∷ items) shape = cond (isDecoded item) (orFault (i + 1) items shape) (Refused (refusalOf i item))
