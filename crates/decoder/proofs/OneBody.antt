@@ -165,7 +165,8 @@ copy-sound body e bytes n h =
     e
     h
     (λ meant ok.
-    let parts = four-tests (leb (byteAt body 13) 2) (eqb (byteAt body 13) 1 || isZero (numberAt 4 body 8)) (leb (byteAt body 14) 1) (isZero (byteAt body 15)) meant in
+    let given = eqb (byteAt body 13) 1 || isZero (numberAt 4 body 8) in
+    let parts = four-tests (leb (byteAt body 13) 2) given (leb (byteAt body 14) 1) (isZero (byteAt body 15)) meant in
     let (mode, srcSize) = mode-said (byteAt body 13) (numberAt 4 body 8) (parts .0) (parts .1) in
     let cache = cache-said (byteAt body 14) (parts .2) in
     let last = sym (eqb-true (byteAt body 15) 0 (parts .3)) in (

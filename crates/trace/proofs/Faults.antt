@@ -65,7 +65,8 @@ unfolding firstItems
 found item i n s h decoded fault =
     let (rest, e) = further item (suc i) (n - suc i) in
     let all : suc i + (n - suc i) ≡ n = omega arith in
-    let split : firstItems item n ≡ firstItems item i ++ item i ∷ rest = ap (firstItems item) (sym all) ∙ e ∙ append-assoc (firstItems item i) (item i ∷ []) rest in
+    let split : firstItems item n ≡ firstItems item i ++ item i ∷ rest =
+    ap (firstItems item) (sym all) ∙ e ∙ append-assoc (firstItems item i) (item i ∷ []) rest in
     let here : 0 + length (firstItems item i) ≡ i = rw (length-first item i) (zero-add i) in
     rw (split, goes-on 0 (firstItems item i) (item i ∷ rest) s decoded, here, fault)
 

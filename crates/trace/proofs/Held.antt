@@ -180,7 +180,8 @@ short-bodies : (f : List ℕ) (i : ℕ) → isShape f (length f) ≡ true → i 
 unfolding bodyLengths firstItems
 short-bodies f zero shape few decoded = omega arith
 short-bodies f (suc i) shape few decoded =
-    let parts = both (allDecoded (firstItems (itemIn f) i)) (isDecoded (itemIn f i) && true) (sym (all-append (firstItems (itemIn f) i) (itemIn f i ∷ [])) ∙ decoded) in
+    let items = firstItems (itemIn f) i in
+    let parts = both (allDecoded items) (isDecoded (itemIn f i) && true) (sym (all-append items (itemIn f i ∷ [])) ∙ decoded) in
     let last = both (isDecoded (itemIn f i)) true (parts .1) in
     let earlier = short-bodies f i shape (omega arith) (parts .0) in
     let this = short-body f i (inside f i shape (omega arith)) (last .0) in

@@ -32,7 +32,9 @@ pub fn check(beginning: &[u8], total: usize) -> Shape
 }
 
 fn check_items(beginning: &[u8], header: Header) -> Shape
-    requires { ⌜ (header .events ≡ eventsIn (now beginning)) × (header .events ≤ eventLimit) × (entryAt (header .events) ≤ length (now beginning)) ⌝ }
+    requires { ⌜ header .events ≡ eventsIn (now beginning) ⌝ }
+    requires { ⌜ header .events ≤ eventLimit ⌝ }
+    requires { ⌜ entryAt (header .events) ≤ length (now beginning) ⌝ }
     ensures { λ r. ⌜ r ≡ orFault 0 (firstItems (heldItemIn (now (beginning .entry))) (header .events)) (Formed header) ⌝ }
 {
     let events = header.events;

@@ -19,7 +19,9 @@ enum-known-shape c = search needs
 
 check-items-requires : tie.Need-check-items-requires
 check-items-requires c κs =
-    counted eventLimit _ _ (c .before .shape .given .0 .0) (sym (c .before .before .before .shape-of .ensures) ∙ c .before .shape .given .1)
+    let formed = c .before .shape .given in
+    let known = counted eventLimit _ _ (formed .0 .0) (sym (c .before .before .before .shape-of .ensures) ∙ formed .1) in
+    (known .0, (known .1, known .2))
 
 returns : tie.Need-returns
 unfolding checkOf
