@@ -5,7 +5,7 @@ use answer::Answer;
 use event::Event;
 ghost use mathlib.Core.Path.{_≡_};
 ghost use Prim.Native.Nat.{_≤_};
-ghost use Rattle.decoder.specs.Kinds.{inRanges, decodeOf, overlong, refusalOf};
+ghost use Rattle.decoder.specs.Kinds.{decodeOf, overlong, refusalOf};
 
 // What a body of a kind decodes as: an event, or the first check that it fails.
 pub enum Item {
@@ -74,20 +74,12 @@ fn bulk(kind: u8, body: &[u8]) -> Item
     }
 }
 
+// No kind has a body of so many bytes.
+const TOO_LONG: usize = 25;
+
 // What a body that is longer than any kind's decodes as. Its bytes do not matter, so no caller need hold them.
 pub fn overlong(kind: u8) -> Item
     ensures { λ r. ⌜ r ≡ overlong kind ⌝ }
 {
-    if is_known(kind) {
-        Item::WrongBodyLength
-    } else {
-        Item::UnknownKind
-    }
-}
-
-// Whether a kind lies in one of the ranges.
-fn is_known(kind: u8) -> bool
-    ensures { λ r. ⌜ r ≡ inRanges kind ⌝ }
-{
-    (1 <= kind) & (kind <= 2) | (16 <= kind) & (kind <= 19) | (32 <= kind) & (kind <= 35)
+    decode(kind, &[0u8; TOO_LONG])
 }
