@@ -1,2 +1,4 @@
--- A law that the proof of `put` cites.
+-- Laws that the functions' proofs cite, and the proofs of the theorems.
 mod Digits
+mod Lines
+pub mod Theorems

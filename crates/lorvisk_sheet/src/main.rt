@@ -3,6 +3,8 @@
 use answer::Answer;
 use answer::SHEET_LENGTH;
 use libc::STDIN_FILENO;
+use libc::STDOUT_FILENO;
+use line::NUMBER_LENGTH;
 ghost use mathlib.Core.Path.{_≡_};
 ghost use mathlib.Core.Bool.{cond};
 ghost use Rattle.answer.specs.Sheet.{readOf};
@@ -13,7 +15,14 @@ fn main() {
     let got = io::read_full(STDIN_FILENO, &mut sheet);
     let answer = answer_on(&sheet[..got], at_end());
     let numbers = answer.numbers();
-    line::print(&[numbers.code, numbers.event, numbers.partner, numbers.peak]);
+    print(&[numbers.code, numbers.event, numbers.partner, numbers.peak]);
+}
+
+// One write, so that a pipe has the line whole or not at all.
+fn print(numbers: &[u32]) {
+    let mut line = [0u8; 4 * NUMBER_LENGTH];
+    let length = line::lay_out(numbers, &mut line);
+    io::write_all(STDOUT_FILENO, &line[..length]);
 }
 
 // A sheet is the whole input: with more behind it, or a read that failed, there is none.

@@ -3,6 +3,8 @@
 // input that cannot be read to its end gets the four numbers of no verdict.
 use answer::Answer;
 use libc::STDIN_FILENO;
+use libc::STDOUT_FILENO;
+use line::NUMBER_LENGTH;
 use trace::ENOUGH;
 use trace::Shape;
 ghost use Prim.Native.Nat.{_≤_};
@@ -17,21 +19,28 @@ fn main() {
     let mut beginning = [0u8; ENOUGH];
     let held = io::read_full(STDIN_FILENO, &mut beginning);
     match length_from(held) {
-        Length::Bytes(total) => print(trace::check(&beginning[..held], total)),
+        Length::Bytes(total) => print_shape(trace::check(&beginning[..held], total)),
         Length::Unknown => print_answer(Answer::NoVerdict),
     }
 }
 
-fn print(shape: Shape) {
+fn print_shape(shape: Shape) {
     match shape {
-        Shape::Formed(header) => line::print(&[header.events, header.global, header.shared]),
+        Shape::Formed(header) => print(&[header.events, header.global, header.shared]),
         Shape::Refused(answer) => print_answer(answer),
     }
 }
 
 fn print_answer(answer: Answer) {
     let numbers = answer.numbers();
-    line::print(&[numbers.code, numbers.event, numbers.partner, numbers.peak]);
+    print(&[numbers.code, numbers.event, numbers.partner, numbers.peak]);
+}
+
+// One write, so that a pipe has the line whole or not at all.
+fn print(numbers: &[u32]) {
+    let mut line = [0u8; 4 * NUMBER_LENGTH];
+    let length = line::lay_out(numbers, &mut line);
+    io::write_all(STDOUT_FILENO, &line[..length]);
 }
 
 // Reads on to the end of the input, of which so many bytes are read. A proved loop has to end, and nothing says that an

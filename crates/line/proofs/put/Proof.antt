@@ -1,11 +1,13 @@
--- `line::put` is safe: at most ten digits and what ends them stand in the line.
+-- `line::put` meets its contract: its digits and what ends them stand from the index on, and the rest as it was.
 -- Assumes nothing.
-use borrow.Author.Needs.{needs}
+use mathlib.Core.Path.{_∙_}
 use native.Mathlib.Omega.{arith}
 use Prim.Native.Nat.{_≤_}
 use lib.ListN.{length-take, length-drop}
 use borrow.Rule.Slice.PartMut.{same-len-mid}
-use Rattle.line.proofs.Digits.{at-most-ten}
+use Rattle.line.proofs.Digits.{at-most-ten, decimal-is}
+use Rattle.line.proofs.Lines.{put-line}
+use borrow.Author.Needs.{needs}
 use Rattle.line.proofs.put.Statement.{statement}
 use Rattle.line.proofs.put.Tie as tie
 
@@ -52,7 +54,12 @@ same-length : tie.Need-same-length
 same-length c = search needs
 
 returns : tie.Need-returns
-returns c = omega (arith, ten (c .before .before .before .before .before))
+returns c =
+    let start = c .before .before .before .before .before .before .before .before in
+    let counted = c .before .before .before .before .before .decimal in
+    let decimal = decimal-is (start .args .number) (counted .result) (start .fits .number .fits) (counted .ensures .1 .0) in
+    let ten = ten (c .before .before .before .before .before) in
+    (omega arith, (put-line _ (start .args .at) (counted .result) _ _ _ _ (omega arith) (counted .ensures .1 .1 ∙ decimal .0) (decimal .1) (c .before .before .copy .ensures .1), omega arith))
 
 pub put-spec : {M : Type 1} → statement M
 put-spec =

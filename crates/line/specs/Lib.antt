@@ -1,0 +1,3 @@
+-- What the contracts of `line` cite, and the statements of the theorems about it.
+pub mod Text
+pub mod Theorems
