@@ -38,5 +38,5 @@ RefusalNumbers =
     × (numbersOf (refusalOf i FieldNotAllowed) ≡ four 7 i 0 0)
 
 -- No kind has a body of more than 24 bytes: whatever they are, a longer one is refused.
-unfoldable pub Overlong : Type 0
-Overlong = (kind : ℕ) (body : List ℕ) → 24 < length body → decodeOf kind body ≡ overlong kind
+unfoldable pub OverlongBody : Type 0
+OverlongBody = (kind : ℕ) (body : List ℕ) → 24 < length body → decodeOf kind body ≡ overlong kind
