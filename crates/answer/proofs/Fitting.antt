@@ -15,12 +15,12 @@ use Rattle.answer.specs.declared.Answer.the-variants.{NoVerdict, Accepte
 use Rattle.answer.specs.declared.Numbers.{Numbers}
 use Rattle.answer.specs.declared.table.Named.{Named}
 use Rattle.answer.specs.declared.table.Named.the-variants.{Unread, Nothing, Count, CountAndPeak, Event, EventAndPartner}
-use Rattle.answer.specs.Numbers.{four, numbersOf, cases, answerOf}
+use Rattle.answer.specs.Numbers.{four, numbersOf, cases, caseOf}
 use Rattle.answer.specs.Table.{eventLimit, rows, namedBy, fitNamed, fit}
 use Rattle.answer.proofs.Both.{all-three}
 
 -- The numbers of an answer name it.
-pub named-again : (a : Answer) → answerOf (numbersOf a) ≡ a
+pub named-again : (a : Answer) → caseOf (numbersOf a) ≡ a
 named-again NoVerdict = refl
 named-again (Accepted events peak) = refl
 named-again WrongShape = refl
@@ -99,7 +99,7 @@ module _ (event partner peak : ℕ) where
   agree code = (refl, (refl, (refl, (refl, (refl, (refl, (refl, (refl, (refl, (refl, (refl, (refl, tt))))))))))))
 
 -- Numbers that fit are those of an answer.
-pub held : (n : Numbers) → fit n ≡ true → Small n × (numbersOf (answerOf n) ≡ n)
+pub held : (n : Numbers) → fit n ≡ true → Small n × (numbersOf (caseOf n) ≡ n)
 unfolding fit
 held n h =
     let f = fitting (namedBy (n .code)) (n .code) (n .event) (n .partner) (n .peak) h in

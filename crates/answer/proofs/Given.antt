@@ -8,7 +8,7 @@ use Rattle.little_endian.specs.Number.{numberAt, bytesOf}
 use Rattle.little_endian.proofs.Widths.{there}
 use Rattle.answer.specs.declared.Answer.{Answer}
 use Rattle.answer.specs.declared.Numbers.{Numbers}
-use Rattle.answer.specs.Numbers.{four, numbersOf, answerOf}
+use Rattle.answer.specs.Numbers.{four, numbersOf, caseOf}
 use Rattle.answer.specs.Table.{fitNamed, fit}
 use Rattle.answer.specs.Sheet.{twoEach, inOrder, laidOut, numbersAt, sheetOf, isSheet, readOf}
 use Rattle.answer.specs.Theorems.{Given}
@@ -32,7 +32,7 @@ pub reads : (a : Answer) → fit (numbersOf a) ≡ true → readOf (sheetOf a) �
 unfolding isSheet numberAt bytesOf
 reads a h =
     let numbers = laid-numbers (numbersOf a) h in
-    read-sheet (sheetOf a) (ap fit numbers ∙ h) ∙ ap answerOf numbers ∙ named-again a
+    read-sheet (sheetOf a) (ap fit numbers ∙ h) ∙ ap caseOf numbers ∙ named-again a
 
 pub given-fits : (a : Answer) → Given a → fit (numbersOf a) ≡ true
 given-fits a (s, bytes, h, no-none) = ap fit (standing s a h no-none) ∙ parts s (verdict s a h no-none) .3

@@ -10,14 +10,14 @@ use borrow.Author.Tests.{eq-eqb, ne-eqb, eqb-true}
 use Rattle.answer.specs.declared.Answer.{Answer}
 use Rattle.answer.specs.declared.Answer.the-variants.{NoVerdict}
 use Rattle.answer.specs.declared.Numbers.{Numbers}
-use Rattle.answer.specs.Numbers.{numbersOf, answerOf}
+use Rattle.answer.specs.Numbers.{numbersOf, caseOf}
 use Rattle.answer.specs.Table.{fit}
 use Rattle.answer.specs.Sheet.{twoAt, numbersAt, isSheet, readOf}
 use Rattle.answer.proofs.Both.{both, all-three}
 use Rattle.answer.proofs.Fitting.{held}
 
 module _ (s : List ℕ) where
-  pub read-sheet : isSheet s ≡ true → readOf s ≡ answerOf (numbersAt s)
+  pub read-sheet : isSheet s ≡ true → readOf s ≡ caseOf (numbersAt s)
   unfolding readOf
   read-sheet h = rw h
 

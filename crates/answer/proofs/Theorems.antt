@@ -9,7 +9,7 @@ use lib.ListN.{length, take, drop, length-drop}
 use borrow.Author.Tests.{le-leb}
 use Rattle.little_endian.specs.Number.{Bytes, numberAt, bytesOf}
 use Rattle.answer.specs.declared.Answer.the-variants.{NotWritten}
-use Rattle.answer.specs.Numbers.{numbersOf, answerOf}
+use Rattle.answer.specs.Numbers.{numbersOf, caseOf}
 use Rattle.answer.specs.Table.{fitNamed, fit}
 use Rattle.answer.specs.Sheet.{twoEach, twoAt, laidOut, numbersAt, sheetOf, isSheet, readOf, isWritten, writeAnswer, writeLeaves}
 use Rattle.answer.specs.Theorems.{Given, cut, NumbersTellApart, ReadsTheNumbers, ReadsBack, CutSheet, OtherLengths, OneSheet, WritesWhatIsGiven, KeepsTheRest, DocumentSheets}
@@ -23,7 +23,7 @@ use Rattle.answer.proofs.Writing.{written, not-written, tested-true, ne
 
 pub numbersTellApart : NumbersTellApart
 unfolding NumbersTellApart
-numbersTellApart a b h = sym (named-again a) ∙ ap answerOf h ∙ named-again b
+numbersTellApart a b h = sym (named-again a) ∙ ap caseOf h ∙ named-again b
 
 pub readsTheNumbers : ReadsTheNumbers
 unfolding ReadsTheNumbers

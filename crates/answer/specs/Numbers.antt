@@ -48,5 +48,5 @@ cases n =
     ∷ []
 
 -- The case that has this code.
-abbrev pub answerOf : Numbers → Answer
-answerOf n = getD (cases n) (n .code) NoVerdict
+abbrev pub caseOf : Numbers → Answer
+caseOf n = getD (cases n) (n .code) NoVerdict

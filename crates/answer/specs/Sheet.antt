@@ -8,7 +8,7 @@ use Rattle.little_endian.specs.Number.{numberAt, bytesOf}
 use Rattle.answer.specs.declared.Answer.{Answer}
 use Rattle.answer.specs.declared.Answer.the-variants.{NoVerdict, Accepted, NotWritten}
 use Rattle.answer.specs.declared.Numbers.{Numbers}
-use Rattle.answer.specs.Numbers.{four, numbersOf, answerOf}
+use Rattle.answer.specs.Numbers.{four, numbersOf, caseOf}
 use Rattle.answer.specs.Table.{fit}
 
 -- Numbers in two bytes each, little-endian.
@@ -41,7 +41,7 @@ isSheet s = eqb (length s) 12 && (eqb (twoAt s 0) 4 && eqb (twoAt s 2) 8 && fit 
 
 -- The reader gives no verdict for what is no sheet.
 unfoldable pub readOf : List ℕ → Answer
-readOf s = cond (isSheet s) (answerOf (numbersAt s)) NoVerdict
+readOf s = cond (isSheet s) (caseOf (numbersAt s)) NoVerdict
 
 -- At least 12 bytes are lent, and the answer is one that the reader gives.
 unfoldable pub isWritten : Answer → List ℕ → Bool

@@ -6,7 +6,7 @@ pub use sheet::SHEET_LENGTH;
 pub use sheet::read_sheet;
 pub use sheet::write_sheet;
 ghost use mathlib.Core.Path.{_≡_};
-ghost use Rattle.answer.specs.Numbers.{numbersOf, codeFirst, answerOf};
+ghost use Rattle.answer.specs.Numbers.{numbersOf, codeFirst, caseOf};
 
 // The most events that a list may have.
 pub const EVENT_LIMIT: u32 = 1024;
@@ -74,7 +74,7 @@ impl Answer {
 impl Numbers {
     // The case of this code, with those of the numbers that it holds; no verdict for a code past the table.
     pub(crate) fn answer(self) -> Answer
-        ensures { λ r. ⌜ r ≡ answerOf self ⌝ }
+        ensures { λ r. ⌜ r ≡ caseOf self ⌝ }
     {
         let event = self.event;
         let partner = self.partner;

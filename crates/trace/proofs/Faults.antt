@@ -51,7 +51,7 @@ length-first item zero = refl
 length-first item (suc i) = rw (length-append, length-first item i) (omega arith)
 
 -- More items stand behind the first.
-further : (item : ℕ → Item) (i d : ℕ) → (rest : List Item) × (firstItems item (i + d) ≡ firstItems item i ++ rest)
+pub further : (item : ℕ → Item) (i d : ℕ) → (rest : List Item) × (firstItems item (i + d) ≡ firstItems item i ++ rest)
 unfolding firstItems
 further item i zero = ([], rw (add-zero, append-nil))
 further item i (suc d) =

@@ -5,7 +5,7 @@ use denote.Ref.{now}
 use mathlib.Core.Path.{_≡_, sym, ap, _∙_}
 use mathlib.Core.Bool.{Bool, _&&_}
 use lib.Dec.{eqb}
-use Rattle.answer.specs.Numbers.{answerOf}
+use Rattle.answer.specs.Numbers.{caseOf}
 use Rattle.answer.specs.Sheet.{isSheet}
 use Rattle.answer.proofs.Reading.{read-sheet, read-no-sheet, other-length, tested}
 use Rattle.answer.proofs.sheet.read_sheet.Statement.{statement}
@@ -41,7 +41,7 @@ answer-requires c κs = search needs
 
 returns-2 : tie.Need-returns-2
 returns-2 c =
-    c .answer .ensures ∙ ap answerOf (c .before .before .before .before .before .numbers-at .ensures)
+    c .answer .ensures ∙ ap caseOf (c .before .before .before .before .before .numbers-at .ensures)
     ∙ sym (read-sheet _ (outcome (c .before .before) _ (c .before .if2 .taken)))
 
 returns-3 : tie.Need-returns-3

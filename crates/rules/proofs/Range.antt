@@ -1,0 +1,53 @@
+-- The test of the range is what document 01 says of bytes.
+-- Assumes nothing.
+use Prim.Native.Nat.{ℕ, _+_, _-_, _≤_, _<_}
+use native.Mathlib.Omega.{arith}
+use native.Mathlib.Decide.{ℕ-discrete}
+use mathlib.Core.Path.{_≡_, refl}
+use mathlib.Core.Logic.{_↔_, _⊎_, inl, inr, ⊎-elim}
+use mathlib.Core.Bool.{true}
+use mathlib.Core.List.{List, [], _∷_, List·Memᴰ·head, List·Memᴰ·tail, List·Memᴰ·not-nil, List·Memᴰ·cases-cons}
+use lib.Dec.{eqb, leb}
+use borrow.Author.Tests.{eqb-true, leb-true, eq-eqb, le-leb}
+use Rattle.answer.proofs.Both.{both}
+use Rattle.event.specs.declared.Event.{Event}
+use Rattle.effect.specs.Memory.{Space}
+use Rattle.order.specs.Order.{_∈_}
+use Rattle.effect.specs.Access.{Access, Has}
+use Rattle.rules.specs.Events.{accesses}
+use Rattle.rules.specs.Faults.{Lengths, lengthOf, inside, allInside, inRange}
+use Rattle.rules.proofs.Booleans.{or-cases, or-left, or-right}
+
+-- every byte of the access lies inside its memory
+abbrev pub Inside : Lengths → Access → Type 0
+Inside lengths x = (space : Space) (byte : ℕ) → Has x space byte → byte < lengthOf lengths space
+
+inside-means : (lengths : Lengths) (x : Access) → (inside lengths x ≡ true) ↔ Inside lengths x
+inside-means lengths x = (
+  λ h space byte has. below space byte has (or-cases (eqb (x .size) 0) (leb (x .start + x .size) (lengthOf lengths (x .space))) h),
+  λ all. elim (ℕ-discrete (x .size) 0) [
+    | yes e ↦ or-left (eqb (x .size) 0) (leb (x .start + x .size) (lengthOf lengths (x .space))) (eq-eqb (x .size) 0 e)
+    | no ne ↦ or-right (eqb (x .size) 0) (leb (x .start + x .size) (lengthOf lengths (x .space)))
+        (le-leb _ _ (last ne (all (x .space) (x .start + (x .size - 1)) (record { there = refl; from = omega arith; below = omega arith }))))
+  ],
+)
+  where
+    below : (space : Space) (byte : ℕ) → Has x space byte → (eqb (x .size) 0 ≡ true) ⊎ (leb (x .start + x .size) (lengthOf lengths (x .space)) ≡ true) → byte < lengthOf lengths space
+    below space byte has (inl e) = absurd (omega (arith, eqb-true (x .size) 0 e))
+    below space byte has (inr l) = rw (← has .there) (omega (arith, leb-true (x .start + x .size) (lengthOf lengths (x .space)) l))
+
+    last : ¬ (x .size ≡ 0) → x .start + (x .size - 1) < lengthOf lengths (x .space) → x .start + x .size ≤ lengthOf lengths (x .space)
+    last ne l = omega arith
+
+all-inside : (lengths : Lengths) (xs : List Access) → (allInside lengths xs ≡ true) ↔ ((x : Access) → x ∈ xs → Inside lengths x)
+all-inside lengths [] = (λ h x m. absurd (List·Memᴰ·not-nil m), λ h. refl)
+all-inside lengths (y ∷ xs) = (
+  λ h x m. let (p, q) = both (inside lengths y) (allInside lengths xs) h in
+      ⊎-elim (λ e. rw e (inside-means lengths y .0 p)) (λ k. all-inside lengths xs .0 q x k) (List·Memᴰ·cases-cons m),
+  λ h. rw (inside-means lengths y .1 (h y (List·Memᴰ·head refl))) (all-inside lengths xs .1 (λ x m. h x (List·Memᴰ·tail m))),
+)
+
+-- an event is in range just if every byte that it reads or writes lies inside its memory
+pub in-range-means : (lengths : Lengths) (e : Event) → (inRange lengths e ≡ true) ↔ ((x : Access) → x ∈ accesses e → Inside lengths x)
+unfolding inRange
+in-range-means lengths e = all-inside lengths (accesses e)

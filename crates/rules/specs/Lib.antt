@@ -1,0 +1,13 @@
+-- The rules, in document 01's words, and the statements of the theorems about them.
+pub mod Events
+pub mod Faults
+pub mod Closing
+pub mod Orders
+pub mod Clashes
+pub mod Peak
+pub mod Tests
+pub mod Answers
+pub mod Right
+pub mod Outcomes
+pub mod Waited
+pub mod Theorems
