@@ -15,4 +15,5 @@ pub mod Eager
 pub mod Waiting
 pub mod Lists
 pub mod Files
+pub mod Traces
 pub mod Theorems

@@ -11,3 +11,4 @@ pub mod Right
 pub mod Outcomes
 pub mod Waited
 pub mod Theorems
+pub mod Traces
