@@ -34,7 +34,8 @@ element-lt w bs = mod-lt (numberAt w bs 0) (pow-pos (8 * w))
 number-take : (w k : ℕ) (bs : List ℕ) (i : ℕ) → i + w ≤ k → numberAt w (take k bs) i ≡ numberAt w bs i
 unfolding numberAt
 number-take zero k bs i h = refl
-number-take (suc w) k bs i h = ap₂ (λ low high. low + 256 * high) (getD-take k bs i 0 (omega arith)) (number-take w k bs (i + 1) (omega arith))
+number-take (suc w) k bs i h =
+    ap₂ (λ low high. low + 256 * high) (getD-take k bs i 0 (omega arith)) (number-take w k bs (i + 1) (omega arith))
 
 -- an element is in the first w bytes
 pub element-take : (w k : ℕ) (bs : List ℕ) → w ≤ k → element w (take k bs) ≡ element w bs
@@ -45,7 +46,8 @@ element-bytes w n rest h = ap (λ k. k % Range w) (there w n [] rest (rw (← ra
 
 pub length-combineFirst : (w : ℕ) (f : ℕ → ℕ → ℕ) (n : ℕ) (ds xs : List ℕ) → length (combineFirst w f n ds xs) ≡ n * w
 length-combineFirst w f zero ds xs = omega arith
-length-combineFirst w f (suc n) ds xs = rw (length-append, length-bytes, length-combineFirst w f n (drop w ds) (drop w xs)) (omega (arith, suc-mul n w))
+length-combineFirst w f (suc n) ds xs =
+    rw (length-append, length-bytes, length-combineFirst w f n (drop w ds) (drop w xs)) (omega (arith, suc-mul n w))
 
 pub length-combine-le : (w : ℕ) (f : ℕ → ℕ → ℕ) (ds xs : List ℕ) → length (combine w f ds xs) ≤ length ds
 length-combine-le w f ds xs = rw length-combineFirst (div-mul-le-self (length ds) w)
@@ -75,7 +77,8 @@ module _ (op f : ℕ → ℕ → ℕ) (step : (a b : ℕ) → op a b ≡ op (a /
 
   swap-bitwise : (d x y : ℕ) → op (op d x) y ≡ op (op d y) x
   swap-bitwise = bin-ind (λ d. (x y : ℕ) → op (op d x) y ≡ op (op d y) x) swap-zero
-      (λ d ih x y. twice d x y ∙ ap₂ (λ h o. h * 2 + o) (ih (x / 2) (y / 2)) (swap-digit (d % 2) (x % 2) (y % 2) (bit d) (bit x) (bit y)) ∙ sym (twice d y x))
+      (λ d ih x y. twice d x y ∙ ap₂ (λ h o. h * 2 + o) (ih (x / 2) (y / 2))
+      (swap-digit (d % 2) (x % 2) (y % 2) (bit d) (bit x) (bit y)) ∙ sym (twice d y x))
 
 -- digits differ as sums are odd
 differ-sum : (a b : ℕ) → a < 2 → b < 2 → differ a b ≡ (a + b) % 2
@@ -90,8 +93,11 @@ differ-lt a b ha hb = rw differ-sum (mod-lt (a + b) (lit< tt))
 
 differ-swap : (a b c : ℕ) → a < 2 → b < 2 → c < 2 → differ (differ a b) c ≡ differ (differ a c) b
 differ-swap a b c ha hb hc =
-    differ-sum (differ a b) c (differ-lt a b ha hb) hc ∙ ap (λ n. (n + c) % 2) (differ-sum a b ha hb) ∙ mod-add-mod (a + b) 2 c
-    ∙ ap (λ n. n % 2) (add-right-comm a b c) ∙ sym (differ-sum (differ a c) b (differ-lt a c ha hc) hb ∙ ap (λ n. (n + b) % 2) (differ-sum a c ha hc) ∙ mod-add-mod (a + c) 2 b)
+    differ-sum (differ a b) c (differ-lt a b ha hb) hc ∙ ap (λ n. (n + c) % 2) (differ-sum a b ha hb)
+    ∙ mod-add-mod (a + b) 2 c
+    ∙ ap (λ n. n % 2) (add-right-comm a b c)
+    ∙ sym (differ-sum (differ a c) b (differ-lt a c ha hc) hb ∙ ap (λ n. (n + b) % 2) (differ-sum a c ha hc) ∙
+    mod-add-mod (a + c) 2 b)
 
 and-swap : (d x y : ℕ) → bitAnd (bitAnd d x) y ≡ bitAnd (bitAnd d y) x
 and-swap = swap-bitwise bitAnd min and-step (λ a b ha hb. omega arith) (λ a b c ha hb hc. omega arith)
@@ -143,7 +149,9 @@ module _ (signed : Bool) (w : ℕ) (f : ℕ → ℕ → ℕ) (g : ℕ → ℕ �
   by-rank : AnyOrder (Range w) f
   by-rank = record {
     below = f-lt;
-    swap = λ d x y hd hx hy. rank-inj signed w _ _ (f-lt (f d x) y (f-lt d x hd hx) hy) (f-lt (f d y) x (f-lt d y hd hy) hx)
+    swap =
+        λ d x y hd hx hy. rank-inj signed w _ _ (f-lt (f d x) y (f-lt d x hd hx) hy)
+        (f-lt (f d y) x (f-lt d y hd hy) hx)
         (ranked (f d x) y ∙ ap (λ a. g a (rank signed w y)) (ranked d x) ∙ g-swap _ _ _ ∙ sym (ranked (f d y) x ∙ ap (λ a. g a (rank signed w x)) (ranked d y)));
   }
 
@@ -152,6 +160,12 @@ pub combined-any-order : (o : Operation) (signed : Bool) (w : ℕ) → AnyOrder 
 combined-any-order And signed w = record { below = and-lt (8 * w); swap = λ d x y hd hx hy. and-swap d x y }
 combined-any-order Or signed w = record { below = or-lt (8 * w); swap = λ d x y hd hx hy. or-swap d x y }
 combined-any-order Xor signed w = record { below = xor-lt (8 * w); swap = λ d x y hd hx hy. xor-swap d x y }
-combined-any-order Add signed w = record { below = λ d x hd hx. mod-lt (d + x) (pow-pos (8 * w)); swap = λ d x y hd hx hy. add-swap (Range w) d x y }
-combined-any-order Min signed w = by-rank signed w _ min (λ d x hd hx. either-lt (ltb (rank signed w x) (rank signed w d)) hx hd) (least (rank signed w)) (λ a b c. omega arith)
-combined-any-order Max signed w = by-rank signed w _ max (λ d x hd hx. either-lt (ltb (rank signed w d) (rank signed w x)) hx hd) (greatest (rank signed w)) (λ a b c. omega arith)
+combined-any-order Add signed w =
+    record
+    { below = λ d x hd hx. mod-lt (d + x) (pow-pos (8 * w)); swap = λ d x y hd hx hy. add-swap (Range w) d x y }
+combined-any-order Min signed w =
+    by-rank signed w _ min (λ d x hd hx. either-lt (ltb (rank signed w x) (rank signed w d)) hx hd)
+    (least (rank signed w)) (λ a b c. omega arith)
+combined-any-order Max signed w =
+    by-rank signed w _ max (λ d x hd hx. either-lt (ltb (rank signed w d) (rank signed w x)) hx hd)
+    (greatest (rank signed w)) (λ a b c. omega arith)

@@ -22,20 +22,23 @@ read-set (x ∷ m) (suc at) size zero b out = refl
 read-set (x ∷ m) (suc at) size (suc i) b out = read-set m at size i b (λ f g. out (suc-le-suc f) (omega arith))
 
 -- what is read is not changed by a write elsewhere
-pub read-write : (bs m : List ℕ) (at size to : ℕ) → Apart at size to (length bs) → read (write m to bs) at size ≡ read m at size
+pub read-write : (bs m : List ℕ) (at size to : ℕ) → Apart at size to (length bs)
+    → read (write m to bs) at size ≡ read m at size
 read-write [] m at size to d = refl
 read-write (b ∷ bs) m at size to d =
     read-write bs (set m to b) at size (suc to) (λ i f g h k. d i f g (omega arith) (omega arith))
     ∙ read-set m at size to b (λ f g. d to f g (omega arith) (omega arith))
 
-set-write : (bs m : List ℕ) (i to b : ℕ) → (to ≤ i → i < to + length bs → ⊥) → set (write m to bs) i b ≡ write (set m i b) to bs
+set-write : (bs m : List ℕ) (i to b : ℕ) → (to ≤ i → i < to + length bs → ⊥)
+    → set (write m to bs) i b ≡ write (set m i b) to bs
 set-write [] m i to b out = refl
 set-write (c ∷ bs) m i to b out =
     set-write bs (set m to c) i (suc to) b (λ f g. out (omega arith) (omega arith))
     ∙ ap (λ l. write l (suc to) bs) (set-comm m to i c b (λ e. out (omega arith) (omega arith)))
 
 -- two writes at different places
-pub write-write : (cs bs m : List ℕ) (at to : ℕ) → Apart at (length bs) to (length cs) → write (write m at bs) to cs ≡ write (write m to cs) at bs
+pub write-write : (cs bs m : List ℕ) (at to : ℕ) → Apart at (length bs) to (length cs)
+    → write (write m at bs) to cs ≡ write (write m to cs) at bs
 write-write [] bs m at to d = refl
 write-write (c ∷ cs) bs m at to d =
     ap (λ l. write l (suc to) cs) (set-write bs m to at c (λ f g. d to f g (omega arith) (omega arith)))
@@ -47,13 +50,20 @@ write-over [] [] m at e = refl
 write-over [] (c ∷ cs) m at e = absurd (omega arith)
 write-over (b ∷ bs) [] m at e = absurd (omega arith)
 write-over (b ∷ bs) (c ∷ cs) m at e =
-    ap (λ l. write l (suc at) cs) (set-write bs (set m at b) at (suc at) c (λ f g. omega arith) ∙ ap (λ l. write l (suc at) bs) (set-set m at b c))
+    ap (λ l. write l (suc at) cs)
+    (set-write bs (set m at b) at (suc at) c (λ f g. omega arith) ∙ ap (λ l. write l (suc at) bs) (set-set m at b c))
     ∙ write-over bs cs (set m at c) (suc at) (omega arith)
 
 -- what was written stands there, and then what stood after it
-pub drop-write : (bs m : List ℕ) (at : ℕ) → at + length bs ≤ length m → drop at (write m at bs) ≡ bs ++ drop (at + length bs) m
+pub drop-write : (bs m : List ℕ) (at : ℕ) → at + length bs ≤ length m
+    → drop at (write m at bs) ≡ bs ++ drop (at + length bs) m
 drop-write bs m at h =
-    rw (sets-eq bs m at h, append-assoc, drop-at (take at m) (bs ++ drop (at + length bs) m) at (length-take-le at m (omega arith)))
+    rw (
+      sets-eq bs m at h,
+      append-assoc,
+      drop-at (take at m) (bs ++ drop (at + length bs) m) at
+          (length-take-le at m (omega arith)),
+    )
 
 -- a write in two steps
 pub write-append : (bs cs m : List ℕ) (at : ℕ) → write m at (bs ++ cs) ≡ write (write m at bs) (at + length bs) cs

@@ -55,11 +55,14 @@ module _ (w : ℕ) (f : ℕ → ℕ → ℕ) where
       let m′ = update m at x in
       let e′ : size ≡ w + size′ = omega (arith, suc-mul n w) in
       let head : element w (read m at size) ≡ element w (drop at m) = element-take w size (drop at m) (omega arith) in
-      let tail : drop w (read m at size) ≡ read m (at + w) size′ = ap (λ k. drop w (take k (drop at m))) e′ ∙ drop-take-add w size′ (drop at m) ∙ ap (take size′) (drop-drop w at m) in
-      let same : read m′ (at + w) size′ ≡ read m (at + w) size′ = read-write (updated m at x) m (at + w) size′ at (simp length-bytes (λ i a b c d. omega arith)) in
+      let tail : drop w (read m at size) ≡ read m (at + w) size′ = ap (λ k. drop w (take k (drop at m))) e′
+      ∙ drop-take-add w size′ (drop at m) ∙ ap (take size′) (drop-drop w at m) in
+      let same : read m′ (at + w) size′ ≡ read m (at + w) size′ = read-write (updated m at x) m (at + w) size′ at
+      (simp length-bytes (λ i a b c d. omega arith)) in
       ap₂ (λ d r. write m at (bytesOf w (f d x) ++ combineFirst w f n r xs′)) head (tail ∙ sym same)
       ∙ write-append (updated m at x) (combineFirst w f n (read m′ (at + w) size′) xs′) m at
-      ∙ ap (λ k. write m′ (at + k) (combineFirst w f n (read m′ (at + w) size′) xs′)) (length-bytes w (f (element w (drop at m)) x))
+      ∙ ap (λ k. write m′ (at + k) (combineFirst w f n (read m′ (at + w) size′) xs′))
+      (length-bytes w (f (element w (drop at m)) x))
       ∙ as-updates n rest m′ (at + w) size′ xs′ refl
 
   module _ (law : AnyOrder (Range w) f) (pos : 0 < w) where
@@ -68,11 +71,13 @@ module _ (w : ℕ) (f : ℕ → ℕ → ℕ) where
     update-twice m at x y h hx =
         let d = f (element w (drop at m)) x in
         let small : d < Range w = law .below (element w (drop at m)) x (element-lt w (drop at m)) hx in
-        ap (λ r. write (update m at x) at (bytesOf w (f r y))) (rw (drop-write (bytesOf w d) m at (rw length-bytes h)) (element-bytes w d _ small))
+        ap (λ r. write (update m at x) at (bytesOf w (f r y)))
+        (rw (drop-write (bytesOf w d) m at (rw length-bytes h)) (element-bytes w d _ small))
         ∙ write-over (bytesOf w d) (bytesOf w (f d y)) m at (simp length-bytes)
 
     -- an element is what it was, if all is written elsewhere
-    element-apart : (bs m : List ℕ) (at to : ℕ) → Apart at w to (length bs) → element w (drop at (write m to bs)) ≡ element w (drop at m)
+    element-apart : (bs m : List ℕ) (at to : ℕ) → Apart at w to (length bs)
+        → element w (drop at (write m to bs)) ≡ element w (drop at m)
     element-apart bs m at to d =
         sym (element-take w w (drop at (write m to bs)) (omega arith))
         ∙ ap (element w) (read-write bs m at w to d)
@@ -80,33 +85,43 @@ module _ (w : ℕ) (f : ℕ → ℕ → ℕ) where
 
     update-apart : (m : List ℕ) (p q x y : ℕ) → Apart p w q w → update (update m p x) q y ≡ update (update m q y) p x
     update-apart m p q x y d =
-        ap (λ r. write (update m p x) q (bytesOf w (f r y))) (element-apart (updated m p x) m q p (simp length-bytes (λ i f g h k. d i h k f g)))
+        ap (λ r. write (update m p x) q (bytesOf w (f r y)))
+        (element-apart (updated m p x) m q p (simp length-bytes (λ i f g h k. d i h k f g)))
         ∙ write-write (updated m q y) (updated m p x) m p q (simp length-bytes d)
-        ∙ ap (λ r. write (update m q y) p (bytesOf w (f r x))) (sym (element-apart (updated m q y) m p q (simp length-bytes d)))
+        ∙ ap (λ r. write (update m q y) p (bytesOf w (f r x)))
+        (sym (element-apart (updated m q y) m p q (simp length-bytes d)))
 
-    swap-update : (m : List ℕ) (p q x y : ℕ) → Multiple w p → Multiple w q → p + w ≤ length m → x < Range w → y < Range w
+    swap-update : (m : List ℕ) (p q x y : ℕ) → Multiple w p → Multiple w q → p + w ≤ length m → x < Range w
+        → y < Range w
         → update (update m p x) q y ≡ update (update m q y) p x
     swap-update m p q x y mp mq h hx hy = go (one-or-apart w p q mp mq)
       where
         go : (p ≡ q) ⊎ Apart p w q w → update (update m p x) q y ≡ update (update m q y) p x
-        go (inl e) = rw (← e) (update-twice m p x y h hx ∙ ap (λ n. write m p (bytesOf w n)) (law .swap (element w (drop p m)) x y (element-lt w (drop p m)) hx hy) ∙ sym (update-twice m p y x h hy))
+        go (inl e) =
+            rw (← e) (update-twice m p x y h hx ∙ ap (λ n. write m p (bytesOf w n))
+            (law .swap (element w (drop p m)) x y (element-lt w (drop p m)) hx hy) ∙ sym (update-twice m p y x h hy))
         go (inr d) = update-apart m p q x y d
 
-    update-updates : (n : ℕ) (m : List ℕ) (p q : ℕ) (xs : List ℕ) (y : ℕ) → Multiple w p → Multiple w q → n * w ≤ length m - p → y < Range w
+    update-updates : (n : ℕ) (m : List ℕ) (p q : ℕ) (xs : List ℕ) (y : ℕ) → Multiple w p → Multiple w q
+        → n * w ≤ length m - p → y < Range w
         → update (updates n m p xs) q y ≡ updates n (update m q y) p xs
     update-updates zero m p q xs y mp mq h hy = refl
     update-updates (suc n) m p q xs y mp mq h hy =
         let x = element w xs in
-        update-updates n (update m p x) (p + w) q (drop w xs) y (next w mp) mq (rw length-sets (omega (arith, suc-mul n w))) hy
-        ∙ ap (λ l. updates n l (p + w) (drop w xs)) (swap-update m p q x y mp mq (omega (arith, suc-mul n w)) (element-lt w xs) hy)
+        update-updates n (update m p x) (p + w) q (drop w xs) y (next w mp) mq
+        (rw length-sets (omega (arith, suc-mul n w))) hy
+        ∙ ap (λ l. updates n l (p + w) (drop w xs))
+        (swap-update m p q x y mp mq (omega (arith, suc-mul n w)) (element-lt w xs) hy)
 
-    updates-updates : (k n : ℕ) (m : List ℕ) (p q : ℕ) (xs ys : List ℕ) → Multiple w p → Multiple w q → n * w ≤ length m - p → k * w ≤ length m - q
+    updates-updates : (k n : ℕ) (m : List ℕ) (p q : ℕ) (xs ys : List ℕ) → Multiple w p → Multiple w q
+        → n * w ≤ length m - p → k * w ≤ length m - q
         → updates k (updates n m p xs) q ys ≡ updates n (updates k m q ys) p xs
     updates-updates zero n m p q xs ys mp mq hp hq = refl
     updates-updates (suc k) n m p q xs ys mp mq hp hq =
         let y = element w ys in
         ap (λ l. updates k l (q + w) (drop w ys)) (update-updates n m p q xs y mp mq hp (element-lt w ys))
-        ∙ updates-updates k n (update m q y) p (q + w) xs (drop w ys) mp (next w mq) (rw length-sets hp) (rw length-sets (omega (arith, suc-mul k w)))
+        ∙ updates-updates k n (update m q y) p (q + w) xs (drop w ys) mp (next w mq) (rw length-sets hp)
+        (rw length-sets (omega (arith, suc-mul k w)))
 
     -- the memory after a reduction
     abbrev reduced : List ℕ → ℕ → ℕ → List ℕ → List ℕ
@@ -124,14 +139,18 @@ module _ (w : ℕ) (f : ℕ → ℕ → ℕ) where
     count-same : (m m′ : List ℕ) (at size : ℕ) → length m′ ≡ length m → count m′ at size ≡ count m at size
     count-same m m′ at size e = simp (length-take, length-drop, e)
 
-    reduced-updates : (m : List ℕ) (at size : ℕ) (xs : List ℕ) → reduced m at size xs ≡ updates (count m at size) m at xs
-    reduced-updates m at size xs = as-updates (count m at size) (size - count m at size * w) m at size xs (omega (arith, count-le m at size .0))
+    reduced-updates : (m : List ℕ) (at size : ℕ) (xs : List ℕ)
+        → reduced m at size xs ≡ updates (count m at size) m at xs
+    reduced-updates m at size xs =
+        as-updates (count m at size) (size - count m at size * w) m at size xs (omega (arith, count-le m at size .0))
 
     twice-reduced : (m : List ℕ) (p n : ℕ) (xs : List ℕ) (q k : ℕ) (ys : List ℕ)
         → reduced (reduced m p n xs) q k ys ≡ updates (count m q k) (updates (count m p n) m p xs) q ys
     twice-reduced m p n xs q k ys =
         reduced-updates (reduced m p n xs) q k ys
-        ∙ ap₂ (λ c l. updates c l q ys) (count-same m (reduced m p n xs) q k (length-sets m p (combine w f (read m p n) xs))) (reduced-updates m p n xs)
+        ∙ ap₂ (λ c l. updates c l q ys)
+        (count-same m (reduced m p n xs) q k (length-sets m p (combine w f (read m p n) xs)))
+        (reduced-updates m p n xs)
 
     pub reductions-commute : (m : List ℕ) (p n : ℕ) (xs : List ℕ) (q k : ℕ) (ys : List ℕ) → Multiple w p → Multiple w q
         → reduced (reduced m p n xs) q k ys ≡ reduced (reduced m q k ys) p n xs

@@ -34,13 +34,22 @@ module _ (w : ℕ) where
       let e : n + half ≡ (n - half) + Range (suc w) = omega (arith, halves) in
       ap (λ m. m % Range (suc w)) e ∙ add-mod-right (n - half) (Range (suc w)) ∙ mod-eq-of-lt (omega arith)
 
-  pub rank-orders : (a b : ℕ) → a < Range (suc w) → b < Range (suc w) → ltb (rank true (suc w) a) (rank true (suc w) b) ≡ ltZ (twosComplement (suc w) a) (twosComplement (suc w) b)
+  pub rank-orders : (a b : ℕ) → a < Range (suc w) → b < Range (suc w)
+      → ltb (rank true (suc w) a) (rank true (suc w) b) ≡ ltZ (twosComplement (suc w) a) (twosComplement (suc w) b)
   rank-orders a b ha hb = go (ltb a half) refl (ltb b half) refl
     where
       go : (ta : Bool) → ltb a half ≡ ta → (tb : Bool) → ltb b half ≡ tb
           → ltb (rank true (suc w) a) (rank true (suc w) b) ≡ ltZ (cond ta (pos a) (negsuc (Range (suc w) - suc a))) (cond tb (pos b) (negsuc (Range (suc w) - suc b)))
-      go true e true e′ = rw (rank-low a (ltb-true a half e), rank-low b (ltb-true b half e′)) (ltb-same (a + half) (b + half) a b (λ h. omega arith) (λ h. omega arith))
-      go true e false e′ = rw (rank-low a (ltb-true a half e), rank-high b (ltb-false b half e′) hb) (le-ltb (a + half) (b - half) (omega (arith, halves)))
-      go false e true e′ = rw (rank-high a (ltb-false a half e) ha, rank-low b (ltb-true b half e′)) (lt-ltb (a - half) (b + half) (omega (arith, halves)))
+      go true e true e′ =
+          rw (rank-low a (ltb-true a half e), rank-low b (ltb-true b half e′))
+          (ltb-same (a + half) (b + half) a b (λ h. omega arith) (λ h. omega arith))
+      go true e false e′ =
+          rw (rank-low a (ltb-true a half e), rank-high b (ltb-false b half e′) hb)
+          (le-ltb (a + half) (b - half) (omega (arith, halves)))
+      go false e true e′ =
+          rw (rank-high a (ltb-false a half e) ha, rank-low b (ltb-true b half e′))
+          (lt-ltb (a - half) (b + half) (omega (arith, halves)))
       go false e false e′ = rw (rank-high a (ltb-false a half e) ha, rank-high b (ltb-false b half e′) hb)
-          (ltb-same (a - half) (b - half) (Range (suc w) - suc b) (Range (suc w) - suc a) (λ h. omega (arith, ltb-false a half e, ltb-false b half e′)) (λ h. omega (arith, ltb-false a half e, ltb-false b half e′)))
+          (ltb-same (a - half) (b - half) (Range (suc w) - suc b) (Range (suc w) - suc a)
+          (λ h. omega (arith, ltb-false a half e, ltb-false b half e′))
+          (λ h. omega (arith, ltb-false a half e, ltb-false b half e′)))

@@ -50,7 +50,8 @@ module _ {A : Type 0} where
         deeper : (a ∈ o) × (p a ≡ true) → (a ∈ (x ∷ o)) × (p a ≡ true)
         deeper k = (List·Memᴰ·tail (k .0), k .1)
 
-        at-head : (t : Bool) → p x ≡ t → a ∈ with-head t x (keep o) → (a ∈ keep o → (a ∈ o) × (p a ≡ true)) → (a ∈ (x ∷ o)) × (p a ≡ true)
+        at-head : (t : Bool) → p x ≡ t → a ∈ with-head t x (keep o) → (a ∈ keep o → (a ∈ o) × (p a ≡ true))
+            → (a ∈ (x ∷ o)) × (p a ≡ true)
         at-head true px (List·Memᴰ·head e) below = (List·Memᴰ·head e, ap p e ∙ px)
         at-head true px (List·Memᴰ·tail k) below = deeper (below k)
         at-head false px k below = deeper (below k)
@@ -59,7 +60,8 @@ module _ {A : Type 0} where
     before-kept [] h = h
     before-kept {a} {b} (x ∷ o) h = at-head (p x) h (before-kept o)
       where
-        at-head : (t : Bool) → Before a b (with-head t x (keep o)) → (Before a b (keep o) → Before a b o) → Before a b (x ∷ o)
+        at-head : (t : Bool) → Before a b (with-head t x (keep o)) → (Before a b (keep o) → Before a b o)
+            → Before a b (x ∷ o)
         at-head true (first e m) below = first e (kept o m .0)
         at-head true (later k) below = later (below k)
         at-head false k below = later (below k)

@@ -35,7 +35,8 @@ module _ {A : Type 0} (eq? : Discrete A) {actions : List A} {must : A → A → 
       by-cases (no ne) (inr k) = k
 
   -- what must follow something that is delayed with a, is delayed with a
-  from-follows : (a x y : A) → a ∈ actions → x ∈ actions → y ∈ actions → m x y ≡ true → from a x ≡ true → from a y ≡ true
+  from-follows : (a x y : A) → a ∈ actions → x ∈ actions → y ∈ actions → m x y ≡ true → from a x ≡ true
+      → from a y ≡ true
   from-follows a x y la lx ly h f =
       from-either a y (inr (⊎-elim (λ e. rw e h) (λ k. closure .transitive a x y la lx ly k h) (from-cases a x f)))
 
@@ -72,7 +73,8 @@ module _ {A : Type 0} (eq? : Discrete A) {actions : List A} {must : A → A → 
 
       can : m a b ≡ false → CanPrecede actions must b a
       can h =
-          let not-from : from a b ≡ false = false-unless-true (from a b) (λ f. ⊎-elim ne (λ k. true≢false (sym k ∙ h)) (from-cases a b f)) in
+          let not-from : from a b ≡ false = false-unless-true (from a b)
+          (λ f. ⊎-elim ne (λ k. true≢false (sym k ∙ h)) (from-cases a b f)) in
           record {
             order = delay (from a) some;
             permitted = delayed-permitted a la;

@@ -24,11 +24,14 @@ use Rattle.rules.specs.Theorems.{IsAccepted}
 
 -- the checks 7 to 9 of event j, each as a test
 abbrev pub faults : ℕ → Bool → Bool → Bool → Option Answer
-faults j f a r = firstOf (unless f (answer.FieldNotAllowed j) ∷ unless a (answer.Misaligned j) ∷ unless r (answer.OutOfRange j) ∷ [])
+faults j f a r =
+    firstOf
+    (unless f (answer.FieldNotAllowed j) ∷ unless a (answer.Misaligned j) ∷ unless r (answer.OutOfRange j) ∷ [])
 
 -- nothing applies just if all pass
 by-tests : (j : ℕ) (f a r : Bool) (o : Option ℕ) (next : Answer)
-    → IsAccepted (orGoOn (firstOf (faults j f a r ∷ clashWith j o ∷ [])) next) → ((f && a && r) ≡ true) × IsAccepted next
+    → IsAccepted (orGoOn (firstOf (faults j f a r ∷ clashWith j o ∷ [])) next)
+    → ((f && a && r) ≡ true) × IsAccepted next
 by-tests j true true true none next h = (refl, h)
 by-tests j true true true (some p) next h = absurd (omega arith)
 by-tests j true true false o next h = absurd (omega arith)
@@ -41,11 +44,13 @@ pub record Events (items : List Item) : Type 0 where
   pub are : items ≡ map Decoded events
 
 module _ (lengths : Lengths) where
-  event-passes : (before : List Event) (e : Event) (items : List Item) → IsAccepted (judged lengths before (Decoded e ∷ items))
+  event-passes : (before : List Event) (e : Event) (items : List Item)
+      → IsAccepted (judged lengths before (Decoded e ∷ items))
       → (faultless lengths e ≡ true) × IsAccepted (judged lengths (before ++ (e ∷ [])) items)
   unfolding judged
   event-passes before e items h =
-      by-tests (length before) (allowed e) (aligned e) (inRange lengths e) (partnerOf before e) (judged lengths (before ++ (e ∷ [])) items) h
+      by-tests (length before) (allowed e) (aligned e) (inRange lengths e) (partnerOf before e)
+      (judged lengths (before ++ (e ∷ [])) items) h
 
   accepted-faultless : (es before : List Event) → IsAccepted (judged lengths before (map Decoded es))
       → (i : ℕ) → i < length es → faultless lengths (eventAt es i) ≡ true
@@ -71,7 +76,8 @@ module _ (lengths : Lengths) where
   limits items true false p q h = absurd (omega arith)
   limits items false t p q h = absurd (omega arith)
 
-  within : (items : List Item) → IsAccepted (answerOf lengths items) → WithinLimits lengths (length items) × IsAccepted (judged lengths [] items)
+  within : (items : List Item) → IsAccepted (answerOf lengths items)
+      → WithinLimits lengths (length items) × IsAccepted (judged lengths [] items)
   unfolding answerOf
   within items h = limits items (leb (length items) eventLimit) (areMemoryLengths lengths) refl refl h
 
@@ -98,7 +104,8 @@ module _ (lengths : Lengths) where
   judged-fault before WrongBodyLength more h = cc
   judged-fault before FieldNotAllowed more h = cc
   judged-fault before (Decoded e) more h =
-      fault-first (length before) (allowed e) (aligned e) (inRange lengths e) (partnerOf before e) (judged lengths (before ++ (e ∷ [])) more) h
+      fault-first (length before) (allowed e) (aligned e) (inRange lengths e) (partnerOf before e)
+      (judged lengths (before ++ (e ∷ [])) more) h
 
 -- ---- after a refusal
 module _ (lengths : Lengths) (more : List Item) where
@@ -128,5 +135,6 @@ module _ (lengths : Lengths) (more : List Item) where
       → answerOf lengths (items ++ more) ≡ answerOf lengths items
   unfolding answerOf
   refused-more items n h =
-      let k : leb (length items) eventLimit ≡ true = le-leb (length items) eventLimit (omega (arith, length-append items more)) in
+      let k : leb (length items) eventLimit ≡ true = le-leb (length items) eventLimit
+      (omega (arith, length-append items more)) in
       rw (le-leb (length (items ++ more)) eventLimit n, k) (by-limits items (areMemoryLengths lengths) (rw k at h))

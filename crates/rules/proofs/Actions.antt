@@ -71,14 +71,19 @@ record From (k : ℕ) (es : List Event) (a : Action) : Type 0 where
 in-from : (k : ℕ) (es : List Event) {a : Action} → a ∈ actionsFrom k es → From k es a
 in-from k [] m = absurd (List·Memᴰ·not-nil m)
 in-from k (e ∷ es) m = ⊎-elim
-    (λ l. let (q, h) = in-moments k e l in record { place = 0; below = omega arith; counted = omega arith; happens = h })
-    (λ l. let f = in-from (suc k) es l in record { place = suc (f .place); below = omega arith; counted = omega arith; happens = f .happens })
+    (λ l. let (q, h) = in-moments k e l in record
+    { place = 0; below = omega arith; counted = omega arith; happens = h })
+    (λ l. let f = in-from (suc k) es l in record
+    { place = suc (f .place); below = omega arith; counted = omega arith; happens = f .happens })
     (List·Memᴰ·append-cases (moments k e) m)
 
-is-in-from : (k : ℕ) (es : List Event) (a : Action) (d : ℕ) → d < length es → event a ≡ k + d → Happens a (eventAt es d) → a ∈ actionsFrom k es
+is-in-from : (k : ℕ) (es : List Event) (a : Action) (d : ℕ) → d < length es → event a ≡ k + d
+    → Happens a (eventAt es d) → a ∈ actionsFrom k es
 is-in-from k [] a d l q h = absurd (omega arith)
-is-in-from k (e ∷ es) a zero l q h = let q′ : event a ≡ k = omega arith in Memᴰ·append-left (actionsFrom (suc k) es) (rw q′ at (its-moment a e h))
-is-in-from k (e ∷ es) a (suc d) l q h = Memᴰ·append-right (moments k e) (is-in-from (suc k) es a d (omega arith) (omega arith) h)
+is-in-from k (e ∷ es) a zero l q h =
+    let q′ : event a ≡ k = omega arith in Memᴰ·append-left (actionsFrom (suc k) es) (rw q′ at (its-moment a e h))
+is-in-from k (e ∷ es) a (suc d) l q h =
+    Memᴰ·append-right (moments k e) (is-in-from (suc k) es a d (omega arith) (omega arith) h)
 
 from-ranks : (k : ℕ) (es : List Event) {a b : Action} → Before a b (actionsFrom k es) → rank a < rank b
 unfolding rank
@@ -89,9 +94,11 @@ from-ranks k (e ∷ es) {a} {b} h = by-place (placed (moments k e) h) (from-rank
     of-one-event (first q m) = rw (q, in-operation (isOperation e) k m .0) (omega arith)
     of-one-event (later l) = absurd (alone (isOperation e) k l)
 
-    by-place : Placed a b (moments k e) (actionsFrom (suc k) es) → (Before a b (actionsFrom (suc k) es) → rank a < rank b) → rank a < rank b
+    by-place : Placed a b (moments k e) (actionsFrom (suc k) es)
+        → (Before a b (actionsFrom (suc k) es) → rank a < rank b) → rank a < rank b
     by-place (in-first l) ih = of-one-event l
-    by-place (in-both l m) ih = omega (arith, rank-event a, rank-event b, in-moments k e l .0, in-from (suc k) es m .counted)
+    by-place (in-both l m) ih =
+        omega (arith, rank-event a, rank-event b, in-moments k e l .0, in-from (suc k) es m .counted)
     by-place (in-second l) ih = ih l
 
 -- ---- of a whole list
@@ -109,4 +116,6 @@ module _ (es : List Event) where
   actions-rank h = from-ranks 0 es h
 
   pub rank-before : {a b : Action} → rank a < rank b → a ∈ actionsOf es → b ∈ actionsOf es → Before a b (actionsOf es)
-  rank-before {a} {b} lt l m = ⊎-elim (λ h. h) (λ h. absurd (omega (arith, actions-rank h))) (total (λ e. absurd (omega (arith, ap rank e))) l m)
+  rank-before {a} {b} lt l m =
+      ⊎-elim (λ h. h) (λ h. absurd (omega (arith, actions-rank h)))
+      (total (λ e. absurd (omega (arith, ap rank e))) l m)

@@ -19,7 +19,8 @@ use Rattle.rules.specs.Closing.{Chain, NonBulk, Bulk, Role, operation, c
 -- ---- membership as a test
 is-in : {i : ℕ} (l : List ℕ) → isIn i l ≡ true → i ∈ l
 is-in [] h = absurd (false≢true h)
-is-in {i} (j ∷ l) h = ⊎-elim (λ e. List·Memᴰ·head (eqb-true i j e)) (λ k. List·Memᴰ·tail (is-in l k)) (or-cases (eqb i j) (isIn i l) h)
+is-in {i} (j ∷ l) h =
+    ⊎-elim (λ e. List·Memᴰ·head (eqb-true i j e)) (λ k. List·Memᴰ·tail (is-in l k)) (or-cases (eqb i j) (isIn i l) h)
 
 in-is : {i : ℕ} {l : List ℕ} → i ∈ l → isIn i l ≡ true
 in-is {i} (List·Memᴰ·head {x = j} {xs = l} e) = or-left (eqb i j) (isIn i l) (eq-eqb i j e)
@@ -57,7 +58,9 @@ module _ (chain : Chain) (es : List Event) where
   pub commits-up : (i w : ℕ) → i ≤ w → commits chain es i ≤ commits chain es w
   unfolding commits
   commits-up i zero le = let e : i ≡ 0 = omega arith in rw e (omega arith)
-  commits-up i (suc w) le = elim (decLt w i) [ yes l ↦ (let e : i ≡ suc w = omega arith in rw e (omega arith)) | no l ↦ omega (arith, commits-up i w (omega arith)) ]
+  commits-up i (suc w) le =
+      elim (decLt w i)
+      [ yes l ↦ (let e : i ≡ suc w = omega arith in rw e (omega arith)) | no l ↦ omega (arith, commits-up i w (omega arith)) ]
 
   -- the operation of event i, before event w, has had more than n groups made since; or none
   pub record Counted (n i w : ℕ) : Type 0 where
@@ -75,13 +78,18 @@ module _ (chain : Chain) (es : List Event) where
   in-uncommitted zero i m = absurd (List·Memᴰ·not-nil m)
   in-uncommitted (suc w) i m = by-role (role chain (eventAt es w)) refl m (in-uncommitted w i)
     where
-      by-role : (r : Role) → role chain (eventAt es w) ≡ r → i ∈ after r w (groups chain es w) .uncommitted → (i ∈ groups chain es w .uncommitted → Uncommitted i w) → Uncommitted i (suc w)
-      by-role operation e (List·Memᴰ·head f) ih = record { starts = rw f e; earlier = omega arith; none-since = rw (e, f) (omega arith) }
-      by-role operation e (List·Memᴰ·tail k) ih = let u = ih k in record { starts = u .starts; earlier = omega arith; none-since = rw e (omega arith) }
+      by-role : (r : Role) → role chain (eventAt es w) ≡ r → i ∈ after r w (groups chain es w) .uncommitted
+          → (i ∈ groups chain es w .uncommitted → Uncommitted i w) → Uncommitted i (suc w)
+      by-role operation e (List·Memᴰ·head f) ih =
+          record { starts = rw f e; earlier = omega arith; none-since = rw (e, f) (omega arith) }
+      by-role operation e (List·Memᴰ·tail k) ih =
+          let u = ih k in record { starts = u .starts; earlier = omega arith; none-since = rw e (omega arith) }
       by-role commit e k ih = absurd (List·Memᴰ·not-nil k)
       by-role wait-all e k ih = absurd (List·Memᴰ·not-nil k)
-      by-role other e k ih = let u = ih k in record { starts = u .starts; earlier = omega arith; none-since = rw e (omega arith) }
-      by-role (wait n) e k ih = let u = ih k in record { starts = u .starts; earlier = omega arith; none-since = rw e (omega arith) }
+      by-role other e k ih =
+          let u = ih k in record { starts = u .starts; earlier = omega arith; none-since = rw e (omega arith) }
+      by-role (wait n) e k ih =
+          let u = ih k in record { starts = u .starts; earlier = omega arith; none-since = rw e (omega arith) }
 
   uncommitted-in : (w i : ℕ) → Uncommitted i w → i ∈ groups chain es w .uncommitted
   unfolding groups commits
@@ -98,7 +106,8 @@ module _ (chain : Chain) (es : List Event) where
         | inr f ↦ absurd (ne (sym e ∙ rw f at (u .starts)))
       ]
 
-      by-role : (r : Role) → role chain (eventAt es w) ≡ r → (Uncommitted i w → i ∈ groups chain es w .uncommitted) → i ∈ after r w (groups chain es w) .uncommitted
+      by-role : (r : Role) → role chain (eventAt es w) ≡ r → (Uncommitted i w → i ∈ groups chain es w .uncommitted)
+          → i ∈ after r w (groups chain es w) .uncommitted
       by-role operation e ih = elim (below-or-last (u .earlier)) [
         | inl l ↦ List·Memᴰ·tail (ih (record { starts = u .starts; earlier = l; none-since = let h : commits chain es w + 0 ≤ commits chain es i = rw e at (u .none-since) in omega arith }))
         | inr f ↦ List·Memᴰ·head f
@@ -114,18 +123,23 @@ module _ (chain : Chain) (es : List Event) where
   in-made zero (suc n) i m = absurd (List·Memᴰ·not-nil m)
   in-made (suc w) n i m = by-role (role chain (eventAt es w)) refl n m (λ k. in-made w k i)
     where
-      up : (r : Role) (k n′ : ℕ) → role chain (eventAt es w) ≡ r → n′ ≤ k + makes r → Counted k i w → Counted n′ i (suc w)
+      up : (r : Role) (k n′ : ℕ) → role chain (eventAt es w) ≡ r → n′ ≤ k + makes r → Counted k i w
+          → Counted n′ i (suc w)
       up r k n′ e le c = record { starts = c .starts; earlier = omega arith; more = rw e (omega arith) }
 
-      grouped : (r : Role) (n′ : ℕ) → role chain (eventAt es w) ≡ r → makes r ≡ 1 → i ∈ allOf (drop n′ (groups chain es w .uncommitted ∷ groups chain es w .made))
+      grouped : (r : Role) (n′ : ℕ) → role chain (eventAt es w) ≡ r → makes r ≡ 1
+          → i ∈ allOf (drop n′ (groups chain es w .uncommitted ∷ groups chain es w .made))
           → ((k : ℕ) → i ∈ allOf (drop k (groups chain es w .made)) → Counted k i w) → Counted n′ i (suc w)
       grouped r zero e m1 k ih = ⊎-elim
-          (λ l. let c = in-uncommitted w i l in record { starts = c .starts; earlier = omega arith; more = rw e (omega (arith, commits-up i w (omega arith))) })
+          (λ l. let c = in-uncommitted w i l in record
+          { starts = c .starts; earlier = omega arith; more = rw e (omega (arith, commits-up i w (omega arith))) })
           (λ l. up r 0 0 e (omega arith) (ih 0 l))
           (List·Memᴰ·append-cases (groups chain es w .uncommitted) k)
       grouped r (suc n′) e m1 k ih = up r n′ (suc n′) e (omega arith) (ih n′ k)
 
-      by-role : (r : Role) → role chain (eventAt es w) ≡ r → (n′ : ℕ) → i ∈ allOf (drop n′ (after r w (groups chain es w) .made)) → ((k : ℕ) → i ∈ allOf (drop k (groups chain es w .made)) → Counted k i w) → Counted n′ i (suc w)
+      by-role : (r : Role) → role chain (eventAt es w) ≡ r → (n′ : ℕ)
+          → i ∈ allOf (drop n′ (after r w (groups chain es w) .made))
+          → ((k : ℕ) → i ∈ allOf (drop k (groups chain es w .made)) → Counted k i w) → Counted n′ i (suc w)
       by-role operation e n′ k ih = up operation n′ n′ e (omega arith) (ih n′ k)
       by-role commit e n′ k ih = grouped commit n′ e refl k ih
       by-role wait-all e n′ k ih = grouped wait-all n′ e refl k ih
@@ -137,18 +151,22 @@ module _ (chain : Chain) (es : List Event) where
   made-in zero n i c = absurd (omega arith)
   made-in (suc w) n i c = by-role (role chain (eventAt es w)) refl n c (λ k. made-in w k i)
     where
-      below : (r : Role) → role chain (eventAt es w) ≡ r → (n′ : ℕ) → Counted n′ i (suc w) → commits chain es i + n′ < commits chain es w + makes r
+      below : (r : Role) → role chain (eventAt es w) ≡ r → (n′ : ℕ) → Counted n′ i (suc w)
+          → commits chain es i + n′ < commits chain es w + makes r
       below r e n′ d = rw e at (d .more)
 
       -- event w is not the operation, or it has made no group
-      down : (r : Role) (k n′ : ℕ) → role chain (eventAt es w) ≡ r → n′ ≡ k + makes r → Counted n′ i (suc w) → Counted k i w
+      down : (r : Role) (k n′ : ℕ) → role chain (eventAt es w) ≡ r → n′ ≡ k + makes r → Counted n′ i (suc w)
+          → Counted k i w
       down r k n′ e le d = elim (below-or-last (d .earlier)) [
         | inl l ↦ record { starts = d .starts; earlier = l; more = omega (arith, below r e n′ d) }
         | inr f ↦ absurd (omega (arith, ap (commits chain es) f, below r e n′ d))
       ]
 
-      grouped : (r : Role) (n′ : ℕ) → role chain (eventAt es w) ≡ r → makes r ≡ 1 → ¬ (r ≡ operation) → Counted n′ i (suc w)
-          → ((k : ℕ) → Counted k i w → i ∈ allOf (drop k (groups chain es w .made))) → i ∈ allOf (drop n′ (groups chain es w .uncommitted ∷ groups chain es w .made))
+      grouped : (r : Role) (n′ : ℕ) → role chain (eventAt es w) ≡ r → makes r ≡ 1 → ¬ (r ≡ operation)
+          → Counted n′ i (suc w)
+          → ((k : ℕ) → Counted k i w → i ∈ allOf (drop k (groups chain es w .made)))
+          → i ∈ allOf (drop n′ (groups chain es w .uncommitted ∷ groups chain es w .made))
       grouped r zero e m1 ne d ih = elim (below-or-last (d .earlier)) [
         | inr f ↦ absurd (ne (sym e ∙ rw f at (d .starts)))
         | inl l ↦ elim (decLt (commits chain es i) (commits chain es w)) [
@@ -158,7 +176,9 @@ module _ (chain : Chain) (es : List Event) where
       ]
       grouped r (suc n′) e m1 ne d ih = ih n′ (down r n′ (suc n′) e (omega arith) d)
 
-      by-role : (r : Role) → role chain (eventAt es w) ≡ r → (n′ : ℕ) → Counted n′ i (suc w) → ((k : ℕ) → Counted k i w → i ∈ allOf (drop k (groups chain es w .made))) → i ∈ allOf (drop n′ (after r w (groups chain es w) .made))
+      by-role : (r : Role) → role chain (eventAt es w) ≡ r → (n′ : ℕ) → Counted n′ i (suc w)
+          → ((k : ℕ) → Counted k i w → i ∈ allOf (drop k (groups chain es w .made)))
+          → i ∈ allOf (drop n′ (after r w (groups chain es w) .made))
       by-role operation e n′ d ih = ih n′ (down operation n′ n′ e (omega arith) d)
       by-role commit e n′ d ih = grouped commit n′ e refl commit-no d ih
       by-role wait-all e n′ d ih = grouped wait-all n′ e refl wait-all-no d ih
@@ -172,10 +192,12 @@ module _ (chain : Chain) (es : List Event) where
 -- an event closes an operation just if it is a wait of its chain with enough groups made since, or the chain's wait-all
 pub data Closes (es : List Event) (i w : ℕ) : Type 0 where
   by-wait : (chain : Chain) (n : ℕ) → role chain (eventAt es w) ≡ wait n → Counted chain es n i w → Closes es i w
-  by-wait-all : (chain : Chain) → role chain (eventAt es w) ≡ wait-all → role chain (eventAt es i) ≡ operation → i < w → Closes es i w
+  by-wait-all : (chain : Chain) → role chain (eventAt es w) ≡ wait-all → role chain (eventAt es i) ≡ operation → i < w
+      → Closes es i w
 
 module _ (es : List Event) (i w : ℕ) where
-  closed-in : (chain : Chain) (r : Role) → role chain (eventAt es w) ≡ r → i ∈ closes r (groups chain es w) → Closes es i w
+  closed-in : (chain : Chain) (r : Role) → role chain (eventAt es w) ≡ r → i ∈ closes r (groups chain es w)
+      → Closes es i w
   closed-in chain operation e m = absurd (List·Memᴰ·not-nil m)
   closed-in chain commit e m = absurd (List·Memᴰ·not-nil m)
   closed-in chain wait-all e m = ⊎-elim
@@ -185,10 +207,12 @@ module _ (es : List Event) (i w : ℕ) where
   closed-in chain other e m = absurd (List·Memᴰ·not-nil m)
   closed-in chain (wait n) e m = by-wait chain n e (in-made chain es w n i m)
 
-  wait-closes : (chain : Chain) (n : ℕ) → role chain (eventAt es w) ≡ wait n → Counted chain es n i w → i ∈ closedIn chain es w
+  wait-closes : (chain : Chain) (n : ℕ) → role chain (eventAt es w) ≡ wait n → Counted chain es n i w
+      → i ∈ closedIn chain es w
   wait-closes chain n e c = rw e (made-in chain es w n i c)
 
-  wait-all-closes : (chain : Chain) → role chain (eventAt es w) ≡ wait-all → role chain (eventAt es i) ≡ operation → i < w → i ∈ closedIn chain es w
+  wait-all-closes : (chain : Chain) → role chain (eventAt es w) ≡ wait-all → role chain (eventAt es i) ≡ operation
+      → i < w → i ∈ closedIn chain es w
   wait-all-closes chain e op lt = rw e (elim (decLt (commits chain es i) (commits chain es w)) [
     | yes h ↦ Memᴰ·append-right (groups chain es w .uncommitted) (made-in chain es w 0 i (record { starts = op; earlier = lt; more = omega arith }))
     | no h ↦ Memᴰ·append-left (allOf (groups chain es w .made)) (uncommitted-in chain es w i (record { starts = op; earlier = lt; none-since = omega arith }))

@@ -84,11 +84,20 @@ eagerly-apart [] m done k h = refl
 eagerly-apart (e ∷ es) m done k h =
     let read = readBy (effectOf e) m in
     ap (eagerly (suc k) es) (step-apart (effectOf e) m done (replicate (length es) []) k h)
-    ∙ rw (← append-assoc done (read ∷ []) (replicate (length es) []), ← append-assoc done (read ∷ []) (reads es (stepped 0 e m)))
+    ∙ rw (
+      ← append-assoc done (read ∷ []) (replicate (length es) []),
+      ← append-assoc done (read ∷ [])
+          (reads es (stepped 0 e m)),
+    )
     (eagerly-apart es (stepped 0 e m) (done ++ (read ∷ [])) (suc k) (length-append done (read ∷ []) ∙ omega arith))
 
-pub eager-outcome : (es : List Event) (global shared : List ℕ) → let m : State = record { global = global; shared = shared; loaded = [] } in
-    outcome es global shared (actionsOf es) ≡ record { global = lasts es m .global; shared = lasts es m .shared; loads = loadsOf es (reads es m) }
+pub eager-outcome : (es : List Event) (global shared : List ℕ)
+    → let m : State = record { global = global; shared = shared; loaded = [] } in
+    outcome es global shared (actionsOf es) ≡ record
+    { global = lasts es m .global; shared = lasts es m .shared; loads = loadsOf es (reads es m) }
 eager-outcome es global shared =
     let m : State = record { global = global; shared = shared; loaded = [] } in
-    rw (runs-eagerly es 0 es (λ d l. let q : 0 + d ≡ d = omega arith in rw q) (initial global shared (length es)), eagerly-apart es m [] 0 refl)
+    rw (
+      runs-eagerly es 0 es (λ d l. let q : 0 + d ≡ d = omega arith in rw q) (initial global shared (length es)),
+      eagerly-apart es m [] 0 refl,
+    )

@@ -60,7 +60,8 @@ module _ (es : List Event) where
   -- an action does nothing, or it is the moment of its event and has its effect
   data Does (a : Action) : Type 0 where
     idle : ((s : State) → exec es a s ≡ s) → Does a
-    acts : momentOf (isOperation (eventAt es (event a))) (event a) ≡ a → ((s : State) → exec es a s ≡ does (event a) (effect a) s) → Does a
+    acts : momentOf (isOperation (eventAt es (event a))) (event a) ≡ a
+        → ((s : State) → exec es a s ≡ does (event a) (effect a) s) → Does a
 
   what : (a : Action) → Happens a (eventAt es (event a)) → Does a
   what (act i) op = acts (rw op) (λ s. refl)
@@ -79,7 +80,8 @@ module _ (es : List Event) (aligns : (i : ℕ) → i < length es → aligned (ev
     in-second = second-of-list es free
 
     -- accesses that met would clash
-    apart : momentOf (isOperation (eventAt es (event a))) (event a) ≡ a → momentOf (isOperation (eventAt es (event b))) (event b) ≡ b
+    apart : momentOf (isOperation (eventAt es (event a))) (event a) ≡ a
+        → momentOf (isOperation (eventAt es (event b))) (event b) ≡ b
         → ¬ MayShare (effect es a) (effect es b) → Apart (effect es a) (effect es b)
     apart p q no-share x y l m meet = clean .no-clash (event a) (event b) (record {
       x = x;
@@ -93,16 +95,20 @@ module _ (es : List Event) (aligns : (i : ℕ) → i < length es → aligned (ev
       };
     })
 
-    share-or-apart : momentOf (isOperation (eventAt es (event a))) (event a) ≡ a → momentOf (isOperation (eventAt es (event b))) (event b) ≡ b
+    share-or-apart : momentOf (isOperation (eventAt es (event a))) (event a) ≡ a
+        → momentOf (isOperation (eventAt es (event b))) (event b) ≡ b
         → MayShare (effect es a) (effect es b) ⊎ Apart (effect es a) (effect es b)
     share-or-apart p q = by-test (mayShare (effect es a) (effect es b)) refl
       where
-        by-test : (t : Bool) → mayShare (effect es a) (effect es b) ≡ t → MayShare (effect es a) (effect es b) ⊎ Apart (effect es a) (effect es b)
+        by-test : (t : Bool) → mayShare (effect es a) (effect es b) ≡ t
+            → MayShare (effect es a) (effect es b) ⊎ Apart (effect es a) (effect es b)
         by-test true h = inl (may-share-tells (effect es a) (effect es b) .0 h)
         by-test false h = inr (apart p q (λ m. true≢false (sym (may-share-tells (effect es a) (effect es b) .1 m) ∙ h)))
 
-    both-act : momentOf (isOperation (eventAt es (event a))) (event a) ≡ a → momentOf (isOperation (eventAt es (event b))) (event b) ≡ b
-        → (s : State) → does (event b) (effect es b) (does (event a) (effect es a) s) ≡ does (event a) (effect es a) (does (event b) (effect es b) s)
+    both-act : momentOf (isOperation (eventAt es (event a))) (event a) ≡ a
+        → momentOf (isOperation (eventAt es (event b))) (event b) ≡ b
+        → (s : State)
+        → does (event b) (effect es b) (does (event a) (effect es a) s) ≡ does (event a) (effect es a) (does (event b) (effect es b) s)
     both-act p q =
         commute (event a) (event b) (effect es a) (effect es b) (other-event es a b free)
         (aligned-effect (eventAt es (event a)) (aligns (event a) (in-actions es in-first .0)))
@@ -126,4 +132,5 @@ module _ (es : List Event) (aligns : (i : ℕ) → i < length es → aligned (ev
 pub well-aligned : (lengths : Lengths) (es : List Event) → WellFormed lengths es
     → (i : ℕ) → i < length es → aligned (eventAt es i) ≡ true
 well-aligned lengths es ok i l =
-    all-three (allowed (eventAt es i)) (aligned (eventAt es i)) (inRange lengths (eventAt es i)) (ok .faultless .each i l) .1
+    all-three (allowed (eventAt es i)) (aligned (eventAt es i)) (inRange lengths (eventAt es i))
+    (ok .faultless .each i l) .1

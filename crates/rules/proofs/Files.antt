@@ -40,7 +40,8 @@ module _ (P : Answer → Type 0) where
   or-later true answer later p q = q
   or-later false answer later p q = p
 
-  of-shape : P WrongShape → P TooManyEvents → P WrongMemoryLength → (f : List ℕ) (total : ℕ) → Refusals (shapeOf eventLimit f total)
+  of-shape : P WrongShape → P TooManyEvents → P WrongMemoryLength → (f : List ℕ) (total : ℕ)
+      → Refusals (shapeOf eventLimit f total)
   unfolding shapeOf
   of-shape p q r f total =
       let memories = isMemoryLength (headerIn f .global) && isMemoryLength (headerIn f .shared) in
@@ -92,7 +93,8 @@ file-fits f = by-reading (reading f)
     by-reading (shaped few) = list-fits (lengthsIn (headerIn f)) (itemsIn f)
 
 -- ---- more waiting
-few-recorded : (f : List ℕ) (header : Header) (items : List Item) → fileOf eventLimit f ≡ recorded header items → length items ≤ eventLimit
+few-recorded : (f : List ℕ) (header : Header) (items : List Item) → fileOf eventLimit f ≡ recorded header items
+    → length items ≤ eventLimit
 few-recorded f header items e = by-reading (reading f) e
   where
     by-reading : {c : Contents} → Read f c → c ≡ recorded header items → length items ≤ eventLimit
@@ -102,18 +104,20 @@ few-recorded f header items e = by-reading (reading f) e
         rw (← same, length-first (itemIn f) (eventsIn f)) few
 
 module _ (f f′ : List ℕ) (lengths : Lengths) (es es′ : List Event)
-    (holds : Records f lengths (map Decoded es)) (holds′ : Records f′ lengths (map Decoded es′)) (r : Waited es es′) where
-  few′ : length es′ ≤ eventLimit
-  few′ = rw length-map at (few-recorded f′ _ (map Decoded es′) holds′)
+    (holds : Records f lengths (map Decoded es)) (holds′ : Records f′ lengths (map Decoded es′)) (r : Waited es es′)
+  where
+    few′ : length es′ ≤ eventLimit
+    few′ = rw length-map at (few-recorded f′ _ (map Decoded es′) holds′)
 
-  accepted-list : IsAccepted (answerOfFile f) → IsAccepted (answerTo lengths es)
-  accepted-list h = rw (answer-recorded f _ (map Decoded es) holds) at h
+    accepted-list : IsAccepted (answerOfFile f) → IsAccepted (answerTo lengths es)
+    accepted-list h = rw (answer-recorded f _ (map Decoded es) holds) at h
 
-  pub still-accepted-file : IsAccepted (answerOfFile f) → IsAccepted (answerOfFile f′)
-  still-accepted-file h = rw (answer-recorded f′ _ (map Decoded es′) holds′) (still-accepted lengths r few′ (accepted-list h))
+    pub still-accepted-file : IsAccepted (answerOfFile f) → IsAccepted (answerOfFile f′)
+    still-accepted-file h =
+        rw (answer-recorded f′ _ (map Decoded es′) holds′) (still-accepted lengths r few′ (accepted-list h))
 
-  pub still-the-same-file : IsAccepted (answerOfFile f) → GiveTheSame es es′
-  still-the-same-file h = still-the-same lengths r few′ (accepted-list h)
+    pub still-the-same-file : IsAccepted (answerOfFile f) → GiveTheSame es es′
+    still-the-same-file h = still-the-same lengths r few′ (accepted-list h)
 
 -- ---- more recording
 same-first : (a b : ℕ → Item) (n : ℕ) → ((i : ℕ) → i < n → a i ≡ b i) → firstItems a n ≡ firstItems b n
@@ -133,8 +137,11 @@ module _ (f f′ : List ℕ) (longer : Extended f f′) where
   more-items : (more : List Item) × (itemsIn f′ ≡ itemsIn f ++ more)
   more-items =
       let (more, e) = further (itemIn f′) (eventsIn f) (eventsIn f′ - eventsIn f) in
-      let all : eventsIn f + (eventsIn f′ - eventsIn f) ≡ eventsIn f′ = omega (arith, longer .longer) in
-      (more, ap (firstItems (itemIn f′)) (sym all) ∙ e ∙ ap (λ l. l ++ more) (same-first (itemIn f′) (itemIn f) (eventsIn f) same-item))
+      let all : eventsIn f + (eventsIn f′ - eventsIn f) ≡ eventsIn f′ = omega (arith, longer .longer) in (
+        more,
+        ap (firstItems (itemIn f′)) (sym all) ∙ e ∙ ap (λ l. l ++ more)
+            (same-first (itemIn f′) (itemIn f) (eventsIn f) same-item),
+      )
 
   same-lengths : lengthsIn (headerIn f′) ≡ lengthsIn (headerIn f)
   same-lengths = rw (longer .global, longer .shared)
@@ -146,7 +153,8 @@ module _ (f f′ : List ℕ) (longer : Extended f f′) where
       let n : length (itemsIn f′) ≤ eventLimit = rw (length-first (itemIn f′) (eventsIn f′)) few in
       rw (same-lengths, e) (still-refused (lengthsIn (headerIn f)) (itemsIn f) more (rw e at n) h)
 
-  pub still-refused-file : within 2 4 (codeOf (answerOfFile f′)) ≡ false → IsRefusedAtEvent (answerOfFile f) → answerOfFile f′ ≡ answerOfFile f
+  pub still-refused-file : within 2 4 (codeOf (answerOfFile f′)) ≡ false → IsRefusedAtEvent (answerOfFile f)
+      → answerOfFile f′ ≡ answerOfFile f
   unfolding answerOfFile
   still-refused-file none-of h = by-reading (reading f) (reading f′) none-of h
     where

@@ -39,7 +39,8 @@ module _ (p : ℕ → Bool) where
   none-below zero h i l = absurd (omega arith)
   none-below (suc n) h i l = by-parts (lowest p n) (p n) refl refl h (none-below n)
     where
-      by-parts : (o : Option ℕ) (t : Bool) → lowest p n ≡ o → p n ≡ t → orElse o (cond t (some n) none) ≡ none → (lowest p n ≡ none → (k : ℕ) → k < n → p k ≡ false) → p i ≡ false
+      by-parts : (o : Option ℕ) (t : Bool) → lowest p n ≡ o → p n ≡ t → orElse o (cond t (some n) none) ≡ none
+          → (lowest p n ≡ none → (k : ℕ) → k < n → p k ≡ false) → p i ≡ false
       by-parts none false e f g ih = ⊎-elim (λ k. ih e i k) (λ q. rw q f) (below-or-last l)
       by-parts none true e f g ih = let z : _≡_ {A = ℕ} 0 1 = cc in absurd (omega arith)
       by-parts (some m) t e f g ih = let z : _≡_ {A = ℕ} 0 1 = cc in absurd (omega arith)
@@ -48,10 +49,14 @@ module _ (p : ℕ → Bool) where
   lowest-below zero m h = let z : _≡_ {A = ℕ} 0 1 = cc in absurd (omega arith)
   lowest-below (suc n) m h = by-parts (lowest p n) (p n) refl refl h (lowest-below n m)
     where
-      by-parts : (o : Option ℕ) (t : Bool) → lowest p n ≡ o → p n ≡ t → orElse o (cond t (some n) none) ≡ some m → (lowest p n ≡ some m → Lowest n m) → Lowest (suc n) m
-      by-parts none true e f g ih = let q : m ≡ n = cc in record { below = omega arith; passes = rw q f; others = λ i l. none-below n e i (omega arith) }
+      by-parts : (o : Option ℕ) (t : Bool) → lowest p n ≡ o → p n ≡ t → orElse o (cond t (some n) none) ≡ some m
+          → (lowest p n ≡ some m → Lowest n m) → Lowest (suc n) m
+      by-parts none true e f g ih =
+          let q : m ≡ n = cc in
+          record { below = omega arith; passes = rw q f; others = λ i l. none-below n e i (omega arith) }
       by-parts none false e f g ih = let z : _≡_ {A = ℕ} 0 1 = cc in absurd (omega arith)
-      by-parts (some k) t e f g ih = let r = ih (e ∙ g) in record { below = omega arith; passes = r .passes; others = r .others }
+      by-parts (some k) t e f g ih =
+          let r = ih (e ∙ g) in record { below = omega arith; passes = r .passes; others = r .others }
 
 -- ---- the answer of faultless events: a clean list is accepted, and of any other the pair is named
 pub data Judgement (es : List Event) : Answer → Type 0 where
@@ -71,9 +76,12 @@ passed-clean es passed = record {
 }
   where
     earlier : (i j : ℕ) → i < j → ¬ Clash es i j
-    earlier i j l c = true≢false (sym (clash-tells es i j l (c .clash .second-made .below) .1 c) ∙ passed j i (c .clash .second-made .below) l)
+    earlier i j l c =
+        true≢false
+        (sym (clash-tells es i j l (c .clash .second-made .below) .1 c) ∙ passed j i (c .clash .second-made .below) l)
 
-up-to-last : (before : List Event) (e : Event) (rest : List Event) → take (suc (length before)) (before ++ (e ∷ rest)) ≡ before ++ (e ∷ [])
+up-to-last : (before : List Event) (e : Event) (rest : List Event)
+    → take (suc (length before)) (before ++ (e ∷ rest)) ≡ before ++ (e ∷ [])
 up-to-last [] e rest = refl
 up-to-last (x ∷ before) e rest = ap (λ l. x ∷ l) (up-to-last before e rest)
 
@@ -82,31 +90,41 @@ module _ (before : List Event) (e : Event) where
   longer = length-append before (e ∷ []) ∙ omega arith
 
   -- one more event that clashes with none
-  passed-more : Passed before → ((i : ℕ) → i < length before → clashes (before ++ (e ∷ [])) i (length before) ≡ false) → Passed (before ++ (e ∷ []))
+  passed-more : Passed before → ((i : ℕ) → i < length before → clashes (before ++ (e ∷ [])) i (length before) ≡ false)
+      → Passed (before ++ (e ∷ []))
   passed-more passed last k i l m = ⊎-elim
-      (λ h. clashes-same (before ++ (e ∷ [])) before i k m (λ w q. agree-append before (e ∷ []) w (omega arith)) ∙ passed k i h m)
+      (λ h. clashes-same (before ++ (e ∷ [])) before i k m (λ w q. agree-append before (e ∷ []) w (omega arith)) ∙
+      passed k i h m)
       (λ q. rw q (last i (omega arith)))
       (below-or-last (rw longer at l))
 
   module _ (rest : List Event) (passed : Passed before) where
     -- one that clashes with an earlier one: it is the first that does
-    named : (p : ℕ) → Lowest (λ i. clashes (before ++ (e ∷ [])) i (length before)) (length before) p → Named (before ++ (e ∷ rest)) (length before) p
+    named : (p : ℕ) → Lowest (λ i. clashes (before ++ (e ∷ [])) i (length before)) (length before) p
+        → Named (before ++ (e ∷ rest)) (length before) p
     named p low = record {
       below = omega (arith, length-append before (e ∷ rest));
       earlier = low .below;
       clash = rw up-to-last (tells p (low .below) .0 (low .passes));
-      lowest = λ i l. rw up-to-last (λ c. true≢false (sym (tells i (omega (arith, low .below)) .1 c) ∙ low .others i l));
-      first = λ k i l m c. true≢false (sym (clash-tells (take (suc k) (before ++ (e ∷ rest))) i k m (inside k l) .1 c) ∙ same k i l m ∙ passed k i l m);
+      lowest =
+          λ i l. rw up-to-last (λ c. true≢false (sym (tells i (omega (arith, low .below)) .1 c) ∙ low .others i l));
+      first =
+          λ k i l m c. true≢false (sym (clash-tells (take (suc k) (before ++ (e ∷ rest))) i k m (inside k l) .1 c) ∙
+          same k i l m ∙ passed k i l m);
     }
       where
-        tells : (i : ℕ) → i < length before → (clashes (before ++ (e ∷ [])) i (length before) ≡ true) ↔ Clash (before ++ (e ∷ [])) i (length before)
+        tells : (i : ℕ) → i < length before → (clashes (before ++ (e ∷ [])) i (length before) ≡ true)
+            ↔ Clash (before ++ (e ∷ [])) i (length before)
         tells i l = clash-tells (before ++ (e ∷ [])) i (length before) l (omega (arith, longer))
 
         inside : (k : ℕ) → k < length before → k < length (take (suc k) (before ++ (e ∷ rest)))
         inside k l = simp length-take (omega (arith, length-append before (e ∷ rest)))
 
-        same : (k i : ℕ) → k < length before → i < k → clashes (take (suc k) (before ++ (e ∷ rest))) i k ≡ clashes before i k
-        same k i l m = clashes-same (take (suc k) (before ++ (e ∷ rest))) before i k m (λ w q. agree-take (suc k) (before ++ (e ∷ rest)) w q ∙ agree-append before (e ∷ rest) w (omega arith))
+        same : (k i : ℕ) → k < length before → i < k
+            → clashes (take (suc k) (before ++ (e ∷ rest))) i k ≡ clashes before i k
+        same k i l m =
+            clashes-same (take (suc k) (before ++ (e ∷ rest))) before i k m
+            (λ w q. agree-take (suc k) (before ++ (e ∷ rest)) w q ∙ agree-append before (e ∷ rest) w (omega arith))
 
 module _ (lengths : Lengths) where
   -- the checks of a faultless event come down to the clash
@@ -152,7 +170,8 @@ module _ (lengths : Lengths) where
       by-way (stops n) = refused n
 
 -- ---- a list within the limits
-pub within-limits : (lengths : Lengths) (items : List Item) → WithinLimits lengths (length items) → answerOf lengths items ≡ judged lengths [] items
+pub within-limits : (lengths : Lengths) (items : List Item) → WithinLimits lengths (length items)
+    → answerOf lengths items ≡ judged lengths [] items
 unfolding answerOf
 within-limits lengths items w = rw (le-leb (length items) eventLimit (w .events), w .memories)
 
@@ -171,7 +190,8 @@ module _ (es : List Event) where
   one-judgement (passes c) (passes d) = refl
   one-judgement (passes c) (refused n) = absurd (named-clash n c)
   one-judgement (refused n) (passes c) = absurd (named-clash n c)
-  one-judgement (refused {j = j} {partner = p} n) (refused {j = k} {partner = q} m) = joined (omega (arith, same-event n m, same-event m n)) n m
+  one-judgement (refused {j = j} {partner = p} n) (refused {j = k} {partner = q} m) =
+      joined (omega (arith, same-event n m, same-event m n)) n m
     where
       joined : j ≡ k → Named es j p → Named es k q → answer.Clash j p ≡ answer.Clash k q
       joined e n′ m′ =

@@ -35,7 +35,9 @@ use Rattle.rules.proofs.Waiting.{clean-kept, well-formed-kept, lasts-ke
 
 module _ (lengths : Lengths) where
   judgement : (es : List Event) → WellFormed lengths es → Judgement es (answerTo lengths es)
-  judgement es ok = rw (within-limits lengths (map Decoded es) (rw length-map (ok .limits))) (judged-right lengths es (ok .faultless))
+  judgement es ok =
+      rw (within-limits lengths (map Decoded es) (rw length-map (ok .limits)))
+      (judged-right lengths es (ok .faultless))
 
   -- ---- exactly
   accepted-clean′ : (es : List Event) {a : Answer} → Judgement es a → IsAccepted a → Clean es
@@ -49,7 +51,8 @@ module _ (lengths : Lengths) where
       let g : q ≡ p = cc in
       rw (← f, ← g) n
 
-  by-judgement : (es : List Event) {a : Answer} → Judgement es a → Clean es ⊎ ((event : ℕ) × (partner : ℕ) × Named es event partner)
+  by-judgement : (es : List Event) {a : Answer} → Judgement es a
+      → Clean es ⊎ ((event : ℕ) × (partner : ℕ) × Named es event partner)
   by-judgement es (passes c) = inl c
   by-judgement es (refused {j = j} {partner = p} n) = inr (j, p, n)
 
@@ -80,7 +83,8 @@ module _ (lengths : Lengths) where
 
   -- ---- the first fault
   module _ (bad : Item) (more : List Item) (fault : Answer) where
-    after-events : (es : List Event) → WithinLimits lengths (length (map Decoded es ++ bad ∷ more)) → faultOf lengths (length es) bad ≡ some fault
+    after-events : (es : List Event) → WithinLimits lengths (length (map Decoded es ++ bad ∷ more))
+        → faultOf lengths (length es) bad ≡ some fault
         → IsAccepted (answerTo lengths es) → answerOf lengths (map Decoded es ++ bad ∷ more) ≡ fault
     after-events es w q h =
         within-limits lengths (map Decoded es ++ bad ∷ more) w
@@ -90,7 +94,8 @@ module _ (lengths : Lengths) where
         by-way (goes-on c) = judged-fault lengths es bad more q
         by-way (stops n) = absurd (named-clash es n (accepted-clean es h))
 
-    pub fault-after : (before : List Item) → WithinLimits lengths (length (before ++ bad ∷ more)) → faultOf lengths (length before) bad ≡ some fault
+    pub fault-after : (before : List Item) → WithinLimits lengths (length (before ++ bad ∷ more))
+        → faultOf lengths (length before) bad ≡ some fault
         → IsAccepted (answerOf lengths before) → answerOf lengths (before ++ bad ∷ more) ≡ fault
     fault-after before w q h =
         let v = accepted-items lengths before h in
@@ -99,7 +104,8 @@ module _ (lengths : Lengths) where
         rw (v .are) (after-events es (rw (v .are) at w) (rw (← k) (rw (v .are) at q)) (rw (v .are) at h))
 
   -- ---- the bytes
-  pub same-bytes : (es : List Event) → IsAccepted (answerTo lengths es) → (o₁ o₂ : List Action) → PermittedOrder es o₁ → PermittedOrder es o₂
+  pub same-bytes : (es : List Event) → IsAccepted (answerTo lengths es) → (o₁ o₂ : List Action) → PermittedOrder es o₁
+      → PermittedOrder es o₂
       → (global shared : List ℕ) → outcome es global shared o₁ ≡ outcome es global shared o₂
   same-bytes es h o₁ o₂ p₁ p₂ global shared =
       ap (given es)
@@ -107,9 +113,12 @@ module _ (lengths : Lengths) where
       (initial global shared (length es)))
 
   -- ---- more waiting
-  module _ {es es′ : List Event} (r : Waited es es′) (n : length es′ ≤ eventLimit) (h : IsAccepted (answerTo lengths es)) where
+  module _ {es es′ : List Event} (r : Waited es es′) (n : length es′ ≤ eventLimit)
+      (h : IsAccepted (answerTo lengths es)) where
     pub still-accepted : IsAccepted (answerTo lengths es′)
-    still-accepted = clean-accepted es′ (well-formed-kept lengths r n (accepted-well-formed lengths es h)) (clean-kept r (accepted-clean es h))
+    still-accepted =
+        clean-accepted es′ (well-formed-kept lengths r n (accepted-well-formed lengths es h))
+        (clean-kept r (accepted-clean es h))
 
     pub still-the-same : GiveTheSame es es′
     still-the-same o o′ p p′ global shared =

@@ -27,13 +27,15 @@ module _ (p : ℕ → Bool) where
   some-below zero h = absurd (false≢true h)
   some-below (suc n) h = by-cases (or-cases (anyBelow p n) (p n) h) (some-below n)
     where
-      by-cases : (anyBelow p n ≡ true) ⊎ (p n ≡ true) → (anyBelow p n ≡ true → (w : ℕ) × (w < n) × (p w ≡ true)) → (w : ℕ) × (w < suc n) × (p w ≡ true)
+      by-cases : (anyBelow p n ≡ true) ⊎ (p n ≡ true) → (anyBelow p n ≡ true → (w : ℕ) × (w < n) × (p w ≡ true))
+          → (w : ℕ) × (w < suc n) × (p w ≡ true)
       by-cases (inl k) below = let (w, l, e) = below k in (w, omega arith, e)
       by-cases (inr e) below = (n, omega arith, e)
 
   pub any-below : (n w : ℕ) → w < n → p w ≡ true → anyBelow p n ≡ true
   any-below zero w l h = absurd (omega arith)
-  any-below (suc n) w l h = ⊎-elim (λ k. rw (any-below n w k h)) (λ e. or-right (anyBelow p n) (p n) (rw e at h)) (below-or-last l)
+  any-below (suc n) w l h =
+      ⊎-elim (λ k. rw (any-below n w k h)) (λ e. or-right (anyBelow p n) (p n) (rw e at h)) (below-or-last l)
 
 module _ (es : List Event) where
   -- no wait up to event j closes the operation of event i
@@ -71,11 +73,16 @@ module _ (es : List Event) where
   unfolding rank
   precedes-rank (turn i) (turn j) h = omega (arith, ltb-true i j h)
   precedes-rank (turn i) (act j) h = omega (arith, leb-true i j h)
-  precedes-rank (act i) b h = let (w, l, c) = some-below (closedBy es i) (suc (event b)) h in omega (arith, closed-earlier i w c, rank-event b)
+  precedes-rank (act i) b h =
+      let (w, l, c) = some-below (closedBy es i) (suc (event b)) h in
+      omega (arith, closed-earlier i w c, rank-event b)
 
   precedes-transitive : (a b c : Action) → precedes a b ≡ true → precedes b c ≡ true → precedes a c ≡ true
-  precedes-transitive (turn i) b c h k = turn-precedes i c (omega (arith, precedes-rank (turn i) b h, precedes-rank b c k))
-  precedes-transitive (act i) b c h k = let (w, l, e) = some-below (closedBy es i) (suc (event b)) h in any-below (closedBy es i) (suc (event c)) w (omega (arith, precedes-rank b c k, rank-event b, rank-event c)) e
+  precedes-transitive (turn i) b c h k =
+      turn-precedes i c (omega (arith, precedes-rank (turn i) b h, precedes-rank b c k))
+  precedes-transitive (act i) b c h k =
+      let (w, l, e) = some-below (closedBy es i) (suc (event b)) h in
+      any-below (closedBy es i) (suc (event c)) w (omega (arith, precedes-rank b c k, rank-event b, rank-event c)) e
 
   -- every list has a permitted order: the one in which each operation acts as soon as it is started
   pub has-order : PermittedOrder es (actionsOf es)
@@ -89,13 +96,15 @@ module _ (es : List Event) where
   turn-in m i l = is-in-actions es (turn i) (omega (arith, in-actions es m .0)) tt
 
   module _ (o : List Action) (ok : PermittedOrder es o) where
-    turn-kept : (i : ℕ) (b : Action) → turn i ∈ actionsOf es → b ∈ actionsOf es → rank (turn i) < rank b → Before (turn i) b o
+    turn-kept : (i : ℕ) (b : Action) → turn i ∈ actionsOf es → b ∈ actionsOf es → rank (turn i) < rank b
+        → Before (turn i) b o
     unfolding rank
     turn-kept i (turn j) l m lt = ok .keeps (turn i) (turn j) l m (in-turn (omega arith))
     turn-kept i (act j) l m lt =
         let k = turn-in m j (omega arith) in
         let start : Before (turn j) (act j) o = ok .keeps (turn j) (act j) k m started in
-        elim (ℕ-discrete i j) [ yes e ↦ rw e start | no ne ↦ transitive (ok .once) (ok .keeps (turn i) (turn j) l k (in-turn (omega arith))) start ]
+        elim (ℕ-discrete i j)
+        [ yes e ↦ rw e start | no ne ↦ transitive (ok .once) (ok .keeps (turn i) (turn j) l k (in-turn (omega arith))) start ]
 
     precedes-kept : (a b : Action) → a ∈ actionsOf es → b ∈ actionsOf es → precedes a b ≡ true → Before a b o
     precedes-kept (turn i) b l m h = turn-kept i b l m (precedes-rank (turn i) b h)
@@ -103,7 +112,8 @@ module _ (es : List Event) where
         let (w, le, c) = some-below (closedBy es i) (suc (event b)) h in
         let k = turn-in m w (omega arith) in
         let close : Before (act i) (turn w) o = ok .keeps (act i) (turn w) l k (closed c) in
-        elim (action-discrete (turn w) b) [ yes e ↦ rw (← e) close | no ne ↦ transitive (ok .once) close (turn-kept w b k m (turn-rank w b (omega arith) ne)) ]
+        elim (action-discrete (turn w) b)
+        [ yes e ↦ rw (← e) close | no ne ↦ transitive (ok .once) close (turn-kept w b k m (turn-rank w b (omega arith) ne)) ]
 
   precedes-closure : Closure (actionsOf es) (Must es) precedes
   precedes-closure = record {
@@ -113,24 +123,31 @@ module _ (es : List Event) where
   }
 
   -- an operation and an action of a later event can come either way just if the operation is open up to that event
-  pub operation-free : (i : ℕ) (x : Action) → isOperation (eventAt es i) ≡ true → x ∈ actionsOf es → i < event x → CanComeEitherWay es (act i) x ↔ OpenUpTo (event x) i
+  pub operation-free : (i : ℕ) (x : Action) → isOperation (eventAt es i) ≡ true → x ∈ actionsOf es → i < event x
+      → CanComeEitherWay es (act i) x ↔ OpenUpTo (event x) i
   operation-free i x op m lt = (λ e. unclosed .0 (free .0 e .0), λ h. free .1 (unclosed .1 h, not-back))
     where
       in-acts : act i ∈ actionsOf es
       in-acts = is-in-actions es (act i) (omega (arith, in-actions es m .0)) op
 
       free : CanComeEitherWay es (act i) x ↔ ((precedes (act i) x ≡ false) × (precedes x (act i) ≡ false))
-      free = either-way action-discrete precedes-closure (actionsOf es) has-order (act i) x in-acts m (λ e. omega (arith, ap event e))
+      free =
+          either-way action-discrete precedes-closure (actionsOf es) has-order (act i) x in-acts m
+          (λ e. omega (arith, ap event e))
 
       unclosed : (precedes (act i) x ≡ false) ↔ OpenUpTo (event x) i
       unclosed = open-not-precedes i (event x)
 
       not-back : precedes x (act i) ≡ false
-      not-back = false-unless-true (precedes x (act i)) (λ h. omega (arith, precedes-rank x (act i) h, rank-event x, rank-event (act i)))
+      not-back =
+          false-unless-true (precedes x (act i))
+          (λ h. omega (arith, precedes-rank x (act i) h, rank-event x, rank-event (act i)))
 
   -- a turn never comes either way with another action of its event or of a later one
   pub turn-fixed : (i : ℕ) (x : Action) → x ∈ actionsOf es → i ≤ event x → turn i ≢ x → ¬ CanComeEitherWay es (turn i) x
-  turn-fixed i x m le ne e = true≢false (sym (turn-precedes i x (turn-rank i x le ne)) ∙ either-way action-discrete precedes-closure (actionsOf es) has-order (turn i) x (turn-in m i le) m ne .0 e .0)
+  turn-fixed i x m le ne e =
+      true≢false (sym (turn-precedes i x (turn-rank i x le ne)) ∙ either-way action-discrete precedes-closure
+      (actionsOf es) has-order (turn i) x (turn-in m i le) m ne .0 e .0)
 
   -- both are actions of the list, and of different events
   pub first-of-list : {a b : Action} → CanComeEitherWay es a b → a ∈ actionsOf es
@@ -141,7 +158,8 @@ module _ (es : List Event) where
 
   not-before-start : (i : ℕ) → ¬ CanPrecede (actionsOf es) (Must es) (act i) (turn i)
   not-before-start i c = asymmetric (c .permitted .once) (c .before)
-      (c .permitted .keeps (turn i) (act i) (c .permitted .all (turn i) .1 (second-in (c .before))) (c .permitted .all (act i) .1 (first-in (c .before))) started)
+      (c .permitted .keeps (turn i) (act i) (c .permitted .all (turn i) .1 (second-in (c .before)))
+      (c .permitted .all (act i) .1 (first-in (c .before))) started)
 
   pub other-event : (a b : Action) → CanComeEitherWay es a b → event a ≢ event b
   other-event (turn i) (turn j) w e = w .one-way .permitted .once (turn j) (rw e at (w .one-way .before))

@@ -29,7 +29,9 @@ module _ (es : List Event) where
   pub peak-largest : (n k : ℕ) → k < n → openAfter es (suc k) ≤ peak es n
   unfolding peak
   peak-largest zero k l = absurd (omega arith)
-  peak-largest (suc n) k l = elim (decLt k n) [ yes h ↦ omega (arith, peak-largest n k h) | no h ↦ (let e : k ≡ n = omega arith in rw e (omega arith)) ]
+  peak-largest (suc n) k l =
+      elim (decLt k n)
+      [ yes h ↦ omega (arith, peak-largest n k h) | no h ↦ (let e : k ≡ n = omega arith in rw e (omega arith)) ]
 
   pub peak-reached : (n : ℕ) → (peak es n ≡ 0) ⊎ ((k : ℕ) × (k < n) × (peak es n ≡ openAfter es (suc k)))
   unfolding peak

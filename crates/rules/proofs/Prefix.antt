@@ -28,15 +28,24 @@ module _ (es es′ : List Event) where
   groups-same : (chain : Chain) (w : ℕ) → Agree es es′ w → groups chain es w ≡ groups chain es′ w
   unfolding groups
   groups-same chain zero h = refl
-  groups-same chain (suc w) h = ap₂ (λ e g. after (role chain e) w g) (h w (omega arith)) (groups-same chain w (λ k l. h k (omega arith)))
+  groups-same chain (suc w) h =
+      ap₂ (λ e g. after (role chain e) w g) (h w (omega arith)) (groups-same chain w (λ k l. h k (omega arith)))
 
   pub closed-same : (i w : ℕ) → Agree es es′ (suc w) → closedBy es i w ≡ closedBy es′ i w
   unfolding closedBy
-  closed-same i w h = rw (h w (omega arith), groups-same NonBulk w (λ k l. h k (omega arith)), groups-same Bulk w (λ k l. h k (omega arith)))
+  closed-same i w h =
+      rw (
+        h w (omega arith),
+        groups-same NonBulk w (λ k l. h k (omega arith)),
+        groups-same Bulk w
+            (λ k l. h k (omega arith)),
+      )
 
   pub open-same : (n i : ℕ) → i < n → Agree es es′ n → isOpen es n i ≡ isOpen es′ n i
   unfolding isOpen
-  open-same n i lt h = ap₂ (λ e t. isOperation e && not t) (h i lt) (any-same (closedBy es i) (closedBy es′ i) n (λ w l. closed-same i w (λ k m. h k (omega arith))))
+  open-same n i lt h =
+      ap₂ (λ e t. isOperation e && not t) (h i lt)
+      (any-same (closedBy es i) (closedBy es′ i) n (λ w l. closed-same i w (λ k m. h k (omega arith))))
 
   pub clashes-same : (i j : ℕ) → i < j → Agree es es′ (suc j) → clashes es i j ≡ clashes es′ i j
   unfolding clashes
@@ -51,7 +60,8 @@ agree-append es more k l = List·getD-append es more Commit k l
 -- a clash with an earlier event over the whole list is one over the list up to the later event
 pub clash-up-to : (es : List Event) (i j : ℕ) → i < j → j < length es → Clash es i j ↔ Clash (take (suc j) es) i j
 clash-up-to es i j lt below =
-    let same : clashes (take (suc j) es) i j ≡ clashes es i j = clashes-same (take (suc j) es) es i j lt (agree-take (suc j) es) in
+    let same : clashes (take (suc j) es) i j ≡ clashes es i j = clashes-same (take (suc j) es) es i j lt
+    (agree-take (suc j) es) in
     let inside : j < length (take (suc j) es) = simp length-take (omega arith) in (
       λ c. clash-tells (take (suc j) es) i j lt inside .0 (same ∙ clash-tells es i j lt below .1 c),
       λ c. clash-tells es i j lt below .0 (sym same ∙ clash-tells (take (suc j) es) i j lt inside .1 c),

@@ -28,18 +28,24 @@ inside-means lengths x = (
   λ all. elim (ℕ-discrete (x .size) 0) [
     | yes e ↦ or-left (eqb (x .size) 0) (leb (x .start + x .size) (lengthOf lengths (x .space))) (eq-eqb (x .size) 0 e)
     | no ne ↦ or-right (eqb (x .size) 0) (leb (x .start + x .size) (lengthOf lengths (x .space)))
-        (le-leb _ _ (last ne (all (x .space) (x .start + (x .size - 1)) (record { there = refl; from = omega arith; below = omega arith }))))
+        (le-leb _ _ (last ne
+        (all (x .space) (x .start + (x .size - 1)) (record { there = refl; from = omega arith; below = omega arith }))))
   ],
 )
   where
-    below : (space : Space) (byte : ℕ) → Has x space byte → (eqb (x .size) 0 ≡ true) ⊎ (leb (x .start + x .size) (lengthOf lengths (x .space)) ≡ true) → byte < lengthOf lengths space
+    below : (space : Space) (byte : ℕ) → Has x space byte
+        → (eqb (x .size) 0 ≡ true) ⊎ (leb (x .start + x .size) (lengthOf lengths (x .space)) ≡ true)
+        → byte < lengthOf lengths space
     below space byte has (inl e) = absurd (omega (arith, eqb-true (x .size) 0 e))
-    below space byte has (inr l) = rw (← has .there) (omega (arith, leb-true (x .start + x .size) (lengthOf lengths (x .space)) l))
+    below space byte has (inr l) =
+        rw (← has .there) (omega (arith, leb-true (x .start + x .size) (lengthOf lengths (x .space)) l))
 
-    last : ¬ (x .size ≡ 0) → x .start + (x .size - 1) < lengthOf lengths (x .space) → x .start + x .size ≤ lengthOf lengths (x .space)
+    last : ¬ (x .size ≡ 0) → x .start + (x .size - 1) < lengthOf lengths (x .space)
+        → x .start + x .size ≤ lengthOf lengths (x .space)
     last ne l = omega arith
 
-all-inside : (lengths : Lengths) (xs : List Access) → (allInside lengths xs ≡ true) ↔ ((x : Access) → x ∈ xs → Inside lengths x)
+all-inside : (lengths : Lengths) (xs : List Access) → (allInside lengths xs ≡ true)
+    ↔ ((x : Access) → x ∈ xs → Inside lengths x)
 all-inside lengths [] = (λ h x m. absurd (List·Memᴰ·not-nil m), λ h. refl)
 all-inside lengths (y ∷ xs) = (
   λ h x m. let (p, q) = both (inside lengths y) (allInside lengths xs) h in
@@ -48,6 +54,7 @@ all-inside lengths (y ∷ xs) = (
 )
 
 -- an event is in range just if every byte that it reads or writes lies inside its memory
-pub in-range-means : (lengths : Lengths) (e : Event) → (inRange lengths e ≡ true) ↔ ((x : Access) → x ∈ accesses e → Inside lengths x)
+pub in-range-means : (lengths : Lengths) (e : Event) → (inRange lengths e ≡ true)
+    ↔ ((x : Access) → x ∈ accesses e → Inside lengths x)
 unfolding inRange
 in-range-means lengths e = all-inside lengths (accesses e)

@@ -51,12 +51,14 @@ event-fits j l = let h = lt-ltb j eventLimit l in (rw h, rw h, rw h, rw h, rw h)
 module _ (lengths : Lengths) where
   data Split : List Item → Type 0 where
     whole : (es : List Event) → Faultless lengths es → Split (map Decoded es)
-    faulty : (es : List Event) (bad : Item) (more : List Item) → Faultless lengths es → ((j : ℕ) → Refusal lengths j bad) → Split (map Decoded es ++ (bad ∷ more))
+    faulty : (es : List Event) (bad : Item) (more : List Item) → Faultless lengths es
+        → ((j : ℕ) → Refusal lengths j bad) → Split (map Decoded es ++ (bad ∷ more))
 
   empty : Faultless lengths []
   empty = record { each = λ i l. absurd (omega arith) }
 
-  more-faultless : (e : Event) (es : List Event) → faultless lengths e ≡ true → Faultless lengths es → Faultless lengths (e ∷ es)
+  more-faultless : (e : Event) (es : List Event) → faultless lengths e ≡ true → Faultless lengths es
+      → Faultless lengths (e ∷ es)
   more-faultless e es h fl = record { each = go }
     where
       go : (i : ℕ) → i < length (e ∷ es) → faultless lengths (eventAt (e ∷ es) i) ≡ true
@@ -65,9 +67,12 @@ module _ (lengths : Lengths) where
 
   split : (items : List Item) → Split items
   split [] = whole [] empty
-  split (UnknownKind ∷ items) = faulty [] UnknownKind items empty (λ j. record { refusal = answer.UnknownKind j; is = refl })
-  split (WrongBodyLength ∷ items) = faulty [] WrongBodyLength items empty (λ j. record { refusal = answer.WrongBodyLength j; is = refl })
-  split (FieldNotAllowed ∷ items) = faulty [] FieldNotAllowed items empty (λ j. record { refusal = answer.FieldNotAllowed j; is = refl })
+  split (UnknownKind ∷ items) =
+      faulty [] UnknownKind items empty (λ j. record { refusal = answer.UnknownKind j; is = refl })
+  split (WrongBodyLength ∷ items) =
+      faulty [] WrongBodyLength items empty (λ j. record { refusal = answer.WrongBodyLength j; is = refl })
+  split (FieldNotAllowed ∷ items) =
+      faulty [] FieldNotAllowed items empty (λ j. record { refusal = answer.FieldNotAllowed j; is = refl })
   split (Decoded e ∷ items) = by-test (faultless lengths e) refl (split items)
     where
       longer : {is : List Item} → faultless lengths e ≡ true → Split is → Split (Decoded e ∷ is)
@@ -76,15 +81,20 @@ module _ (lengths : Lengths) where
 
       by-test : (t : Bool) → faultless lengths e ≡ t → Split items → Split (Decoded e ∷ items)
       by-test true h s = longer h s
-      by-test false h s = faulty [] (Decoded e) items empty (λ j. let (x, q) = some-fault j (allowed e) (aligned e) (inRange lengths e) h in record { refusal = x; is = q })
+      by-test false h s =
+          faulty [] (Decoded e) items empty (λ j. let (x, q) = some-fault j (allowed e) (aligned e)
+          (inRange lengths e) h in record { refusal = x; is = q })
 
   -- ---- within the limits
-  through-right : (es : List Event) (more : List Item) → WithinLimits lengths (length (map Decoded es ++ more)) → Faultless lengths es
-      → (Clean es → Right lengths (map Decoded es ++ more) (judged lengths es more)) → {a : Answer} → Through lengths es more a → Right lengths (map Decoded es ++ more) a
+  through-right : (es : List Event) (more : List Item) → WithinLimits lengths (length (map Decoded es ++ more))
+      → Faultless lengths es
+      → (Clean es → Right lengths (map Decoded es ++ more) (judged lengths es more)) → {a : Answer}
+      → Through lengths es more a → Right lengths (map Decoded es ++ more) a
   through-right es more w fl go (goes-on c) = go c
   through-right es more w fl go (stops n) = clash es more w fl n
 
-  split-right : {items : List Item} → WithinLimits lengths (length items) → Split items → Right lengths items (judged lengths [] items)
+  split-right : {items : List Item} → WithinLimits lengths (length items) → Split items
+      → Right lengths items (judged lengths [] items)
   split-right w (whole es fl) = by-way (judged-right lengths es fl)
     where
       by-way : {a : Answer} → Judgement es a → Right lengths (map Decoded es) a
@@ -93,7 +103,8 @@ module _ (lengths : Lengths) where
           let c : Right lengths (map Decoded es ++ []) (answer.Clash j p) = clash es [] (rw append-nil w) fl n in
           rw append-nil at c
   split-right w (faulty es bad more fl r) = through-right es (bad ∷ more) w fl
-      (λ c. rw (judged-fault lengths es bad more (r (length es) .is)) (fault es bad more w fl c (r (length es) .is))) (judged-through lengths es (bad ∷ more) fl)
+      (λ c. rw (judged-fault lengths es bad more (r (length es) .is)) (fault es bad more w fl c (r (length es) .is)))
+      (judged-through lengths es (bad ∷ more) fl)
 
   -- ---- the theorem
   pub answer-right : (items : List Item) → Right lengths items (answerOf lengths items)
@@ -110,18 +121,21 @@ module _ (lengths : Lengths) where
   unfolding answerOf
   right-is-answer (too-many-events {items = items} l) = rw (lt-leb (length items) eventLimit l)
   right-is-answer (memory-length {items = items} n over) = rw (le-leb (length items) eventLimit n, over)
-  right-is-answer (fault es bad more {refusal = refusal} w fl c q) = within-limits lengths (map Decoded es ++ (bad ∷ more)) w ∙ by-way (judged-through lengths es (bad ∷ more) fl)
+  right-is-answer (fault es bad more {refusal = refusal} w fl c q) =
+      within-limits lengths (map Decoded es ++ (bad ∷ more)) w ∙ by-way (judged-through lengths es (bad ∷ more) fl)
     where
       by-way : {a : Answer} → Through lengths es (bad ∷ more) a → a ≡ refusal
       by-way (goes-on d) = judged-fault lengths es bad more q
       by-way (stops n) = absurd (named-clash es n c)
-  right-is-answer (clash es more {event = j} {partner = p} w fl n) = within-limits lengths (map Decoded es ++ more) w ∙ by-way (judged-through lengths es more fl)
+  right-is-answer (clash es more {event = j} {partner = p} w fl n) =
+      within-limits lengths (map Decoded es ++ more) w ∙ by-way (judged-through lengths es more fl)
     where
       by-way : {a : Answer} → Through lengths es more a → a ≡ answer.Clash j p
       by-way (goes-on c) = absurd (named-clash es n c)
       by-way (stops m) = one-judgement es (refused m) (refused n)
   right-is-answer (accepted es ok c) =
-      within-limits lengths (map Decoded es) (rw length-map (ok .limits)) ∙ one-judgement es (judged-right lengths es (ok .faultless)) (passes c)
+      within-limits lengths (map Decoded es) (rw length-map (ok .limits))
+      ∙ one-judgement es (judged-right lengths es (ok .faultless)) (passes c)
 
   -- ---- a sheet can hold it
   known : {x a : Answer} → some x ≡ some a → Fits x → Fits a
@@ -144,8 +158,18 @@ module _ (lengths : Lengths) where
   right-fits (too-many-events l) = refl
   right-fits (memory-length n over) = refl
   right-fits (fault es bad more w fl c q) =
-      fault-fits (length es) bad (omega (arith, w .events, length-append (map Decoded es) (bad ∷ more), length-map es Decoded)) q
+      fault-fits (length es) bad
+      (omega (arith, w .events, length-append (map Decoded es) (bad ∷ more), length-map es Decoded)) q
   right-fits (clash es more {event = j} {partner = p} w fl n) =
-      rw (lt-ltb j eventLimit (omega (arith, w .events, n .below, length-append (map Decoded es) more, length-map es Decoded)), lt-ltb p j (n .earlier))
+      rw (
+        lt-ltb j eventLimit
+            (omega (arith, w .events, n .below, length-append (map Decoded es) more, length-map es Decoded)),
+        lt-ltb p j
+            (n .earlier),
+      )
   right-fits (accepted es ok c) =
-      rw (le-leb (length es) eventLimit (ok .limits .events), le-leb (peak es (length es)) (length es) (peak-most es (length es)))
+      rw (
+        le-leb (length es) eventLimit (ok .limits .events),
+        le-leb (peak es (length es)) (length es)
+            (peak-most es (length es)),
+      )

@@ -39,7 +39,8 @@ space-tells Shared Shared = (λ e. refl, λ e. refl)
 pub meet-tells : (x y : Access) → Tells (meet x y) (Meet x y)
 meet-tells x y = Iff·trans
     (and-tells (shareByte x y) (x .writes || y .writes)
-    (and-tells (sameSpace (x .space) (y .space)) (ltb low high) (space-tells (x .space) (y .space)) (ltb-true low high, lt-ltb low high))
+    (and-tells (sameSpace (x .space) (y .space)) (ltb low high) (space-tells (x .space) (y .space))
+    (ltb-true low high, lt-ltb low high))
     (or-tells (x .writes) (y .writes) (itself (x .writes)) (itself (y .writes))))
     (there, back)
   where
@@ -82,12 +83,13 @@ pub record SomeMeet (xs ys : List Access) : Type 0 where
 
 pub some-meet-tells : (xs ys : List Access) → Tells (someMeet xs ys) (SomeMeet xs ys)
 some-meet-tells [] ys = (λ e. absurd (false≢true e), λ m. absurd (List·Memᴰ·not-nil (m .x-among)))
-some-meet-tells (x ∷ xs) ys = Iff·trans (or-tells (meetsOne x ys) (someMeet xs ys) (meets-one-tells x ys) (some-meet-tells xs ys)) (
-  ⊎-elim (λ m. record { x = x; y = m .y; x-among = List·Memᴰ·head refl; y-among = m .among; meets = m .meets })
-      (λ m. record { x = m .x; y = m .y; x-among = List·Memᴰ·tail (m .x-among); y-among = m .y-among; meets = m .meets }),
-  λ m. ⊎-elim (λ e. inl (record { y = m .y; among = m .y-among; meets = rw e at (m .meets) }))
-      (λ k. inr (record { x = m .x; y = m .y; x-among = k; y-among = m .y-among; meets = m .meets })) (List·Memᴰ·cases-cons (m .x-among)),
-)
+some-meet-tells (x ∷ xs) ys =
+    Iff·trans (or-tells (meetsOne x ys) (someMeet xs ys) (meets-one-tells x ys) (some-meet-tells xs ys)) (
+      ⊎-elim (λ m. record { x = x; y = m .y; x-among = List·Memᴰ·head refl; y-among = m .among; meets = m .meets })
+          (λ m. record { x = m .x; y = m .y; x-among = List·Memᴰ·tail (m .x-among); y-among = m .y-among; meets = m .meets }),
+      λ m. ⊎-elim (λ e. inl (record { y = m .y; among = m .y-among; meets = rw e at (m .meets) }))
+          (λ k. inr (record { x = m .x; y = m .y; x-among = k; y-among = m .y-among; meets = m .meets })) (List·Memᴰ·cases-cons (m .x-among)),
+    )
 
 -- ---- two reductions may share
 operation-back : (o : Operation) → getD operations (operationNumber o) And ≡ o
@@ -125,13 +127,15 @@ reduction-with p (load space at size) h = absurd (false≢true h)
 reduction-with p (store space at size value) h = absurd (false≢true h)
 reduction-with p (copy dst src count size) h = absurd (false≢true h)
 reduction-with p (bulkCopy dst src size) h = absurd (false≢true h)
-reduction-with p (bulkReduction dst src size o t) h = record { dst = dst; src = src; size = size; o = o; t = t; is = refl; passes = h }
+reduction-with p (bulkReduction dst src size o t) h =
+    record { dst = dst; src = src; size = size; o = o; t = t; is = refl; passes = h }
 
 both : {a b : Effect} {o o′ : Operation} {t t′ : ElementType} {dst dst′ src src′ size size′ : ℕ}
     → a ≡ bulkReduction dst src size o t → b ≡ bulkReduction dst′ src′ size′ o′ t′ → o ≡ o′ → t ≡ t′ → MayShare a b
 both p q r s = rw (p, q, r, s) alike
 
-same-tells : (o : Operation) (t : ElementType) (o′ : Operation) (t′ : ElementType) → Tells (sameReduction o t o′ t′) ((o ≡ o′) × (t ≡ t′))
+same-tells : (o : Operation) (t : ElementType) (o′ : Operation) (t′ : ElementType)
+    → Tells (sameReduction o t o′ t′) ((o ≡ o′) × (t ≡ t′))
 same-tells o t o′ t′ =
     and-tells (eqb (operationNumber o) (operationNumber o′)) (eqb (typeNumber t) (typeNumber t′))
     (λ h. same-operation o o′ (eqb-true _ _ h), λ e. eq-eqb _ _ (ap operationNumber e))
@@ -154,7 +158,8 @@ pub may-share-sym : {a b : Effect} → MayShare a b → MayShare b a
 may-share-sym alike = alike
 
 -- ---- an operation is open
-pub open-tells : (es : List Event) (j i : ℕ) → Tells (isOpen es (suc j) i) ((isOperation (eventAt es i) ≡ true) × OpenUpTo es j i)
+pub open-tells : (es : List Event) (j i : ℕ)
+    → Tells (isOpen es (suc j) i) ((isOperation (eventAt es i) ≡ true) × OpenUpTo es j i)
 unfolding isOpen
 open-tells es j i = and-tells (isOperation (eventAt es i)) (not (anyBelow (closedBy es i) (suc j))) (itself _)
     (λ e. open-not-precedes es i j .0 (not-true _ e), λ h. ap not (open-not-precedes es i j .1 h))
@@ -174,7 +179,8 @@ module _ (es : List Event) where
 
   -- for two events of a list: they can come either way just if the earlier is an operation that is open up to the later
   pub moments-free : (i j : ℕ) → i < j → j < length es
-      → CanComeEitherWay es (momentOf (isOperation (eventAt es i)) i) (momentOf (isOperation (eventAt es j)) j) ↔ ((isOperation (eventAt es i) ≡ true) × OpenUpTo es j i)
+      → CanComeEitherWay es (momentOf (isOperation (eventAt es i)) i) (momentOf (isOperation (eventAt es j)) j)
+      ↔ ((isOperation (eventAt es i) ≡ true) × OpenUpTo es j i)
   moments-free i j lt below = by-test (isOperation (eventAt es i)) refl
     where
       b : Action
@@ -183,18 +189,28 @@ module _ (es : List Event) where
       at-j : event b ≡ j
       at-j = event-moment (isOperation (eventAt es j)) j
 
-      by-test : (t : Bool) → isOperation (eventAt es i) ≡ t → CanComeEitherWay es (momentOf t i) b ↔ ((t ≡ true) × OpenUpTo es j i)
+      by-test : (t : Bool) → isOperation (eventAt es i) ≡ t → CanComeEitherWay es (momentOf t i) b
+          ↔ ((t ≡ true) × OpenUpTo es j i)
       by-test true op =
-          let free : CanComeEitherWay es (act i) b ↔ OpenUpTo es (event b) i = operation-free es i b op (moment-in j below) (omega (arith, at-j)) in
+          let free : CanComeEitherWay es (act i) b ↔ OpenUpTo es (event b) i = operation-free es i b op
+          (moment-in j below) (omega (arith, at-j)) in
           (λ e. (refl, rw at-j at (free .0 e)), λ h. free .1 (rw at-j (h .1)))
-      by-test false op = (λ e. absurd (turn-fixed es i b (moment-in j below) (omega (arith, at-j)) (λ q. omega (arith, at-j, ap event q)) e), λ h. absurd (false≢true (h .0)))
+      by-test false op = (
+        λ e. absurd
+            (turn-fixed es i b (moment-in j below) (omega (arith, at-j)) (λ q. omega (arith, at-j, ap event q)) e),
+        λ h.
+            absurd (false≢true (h .0)),
+      )
 
   pub clash-tells : (i j : ℕ) → i < j → j < length es → Tells (clashes es i j) (Clash es i j)
   unfolding clashes
   clash-tells i j lt below = Iff·trans
-      (and-tells (isOpen es (suc j) i) _ (Iff·trans (open-tells es j i) (moments-free i j lt below .1, moments-free i j lt below .0))
-      (and-tells (not (mayShare (effectOf (eventAt es i)) (effectOf (eventAt es j)))) (someMeet (accesses (eventAt es i)) (accesses (eventAt es j)))
-      (not-tells (mayShare (effectOf (eventAt es i)) (effectOf (eventAt es j))) (may-share-tells (effectOf (eventAt es i)) (effectOf (eventAt es j))))
+      (and-tells (isOpen es (suc j) i) _
+      (Iff·trans (open-tells es j i) (moments-free i j lt below .1, moments-free i j lt below .0))
+      (and-tells (not (mayShare (effectOf (eventAt es i)) (effectOf (eventAt es j))))
+      (someMeet (accesses (eventAt es i)) (accesses (eventAt es j)))
+      (not-tells (mayShare (effectOf (eventAt es i)) (effectOf (eventAt es j)))
+      (may-share-tells (effectOf (eventAt es i)) (effectOf (eventAt es j))))
       (some-meet-tells (accesses (eventAt es i)) (accesses (eventAt es j))))) (
         λ h. record {
           x = h .1 .1 .x;
@@ -211,7 +227,9 @@ module _ (es : List Event) where
       )
 
   meet-sym : {x y : Access} → Meet x y → Meet y x
-  meet-sym m = record { space = m .space; byte = m .byte; in-first = m .in-second; in-second = m .in-first; one-writes = ⊎-swap (m .one-writes) }
+  meet-sym m =
+      record
+      { space = m .space; byte = m .byte; in-first = m .in-second; in-second = m .in-first; one-writes = ⊎-swap (m .one-writes) }
 
   pub clash-sym : {i j : ℕ} → Clash es i j → Clash es j i
   clash-sym c = record {
@@ -228,4 +246,6 @@ module _ (es : List Event) where
 
   -- of two events that clash, one is earlier
   pub clash-events : {i j : ℕ} → Clash es i j → i ≢ j
-  clash-events {i} {j} c e = other-event es _ _ (c .clash .either-way) (event-moment (isOperation (eventAt es i)) i ∙ e ∙ sym (event-moment (isOperation (eventAt es j)) j))
+  clash-events {i} {j} c e =
+      other-event es _ _ (c .clash .either-way)
+      (event-moment (isOperation (eventAt es i)) i ∙ e ∙ sym (event-moment (isOperation (eventAt es j)) j))

@@ -49,9 +49,12 @@ place-up (keep q r) (suc i) (suc j) l = omega (arith, place-up r i j (omega arit
 place-up (add w r) i j l = omega (arith, place-up r i j l)
 
 place-le : {es es′ : List Event} (r : Waited es es′) (i j : ℕ) → i ≤ j → place r i ≤ place r j
-place-le r i j l = elim (decLt i j) [ yes h ↦ omega (arith, place-up r i j h) | no h ↦ (let e : i ≡ j = omega arith in rw e (omega arith)) ]
+place-le r i j l =
+    elim (decLt i j)
+    [ yes h ↦ omega (arith, place-up r i j h) | no h ↦ (let e : i ≡ j = omega arith in rw e (omega arith)) ]
 
-place-event : {es es′ : List Event} (r : Waited es es′) (i : ℕ) → i < length es → Lowered (eventAt es i) (eventAt es′ (place r i))
+place-event : {es es′ : List Event} (r : Waited es es′) (i : ℕ) → i < length es
+    → Lowered (eventAt es i) (eventAt es′ (place r i))
 place-event done i l = absurd (omega arith)
 place-event (keep q r) zero l = q
 place-event (keep q r) (suc i) l = place-event r i (omega arith)
@@ -66,9 +69,13 @@ record Placed {es es′ : List Event} (r : Waited es es′) (j : ℕ) : Type 0 w
 come-from : {es es′ : List Event} (r : Waited es es′) (j : ℕ) → j < length es′ → MayAdd (eventAt es′ j) ⊎ Placed r j
 come-from done j l = absurd (omega arith)
 come-from (keep q r) zero l = inr (record { from = 0; below = omega arith; at = refl })
-come-from (keep q r) (suc j) l = ⊎-elim inl (λ p. inr (record { from = suc (p .from); below = omega (arith, p .below); at = ap suc (p .at) })) (come-from r j (omega arith))
+come-from (keep q r) (suc j) l =
+    ⊎-elim inl (λ p. inr (record { from = suc (p .from); below = omega (arith, p .below); at = ap suc (p .at) }))
+    (come-from r j (omega arith))
 come-from (add w r) zero l = inl w
-come-from (add w r) (suc j) l = ⊎-elim inl (λ p. inr (record { from = p .from; below = p .below; at = ap suc (p .at) })) (come-from r j (omega arith))
+come-from (add w r) (suc j) l =
+    ⊎-elim inl (λ p. inr (record { from = p .from; below = p .below; at = ap suc (p .at) }))
+    (come-from r j (omega arith))
 
 -- ---- what lowering keeps
 lowered-makes : (chain : Chain) {e e′ : Event} → Lowered e e′ → makes (role chain e) ≡ makes (role chain e′)
@@ -86,10 +93,12 @@ record LowerWait (chain : Chain) (e′ : Event) (n : ℕ) : Type 0 where
 
 lowered-wait : (chain : Chain) {e e′ : Event} (n : ℕ) → Lowered e e′ → role chain e ≡ wait n → LowerWait chain e′ n
 lowered-wait chain n same h = record { number = n; is = h; lower = omega arith }
-lowered-wait NonBulk n (waited.Lowered.wait {m = m} {n = k} l) h = let q : k ≡ n = cc in record { number = m; is = refl; lower = omega arith }
+lowered-wait NonBulk n (waited.Lowered.wait {m = m} {n = k} l) h =
+    let q : k ≡ n = cc in record { number = m; is = refl; lower = omega arith }
 lowered-wait Bulk n (waited.Lowered.wait l) h = let z : _≡_ {A = ℕ} 0 1 = cc in absurd (omega arith)
 lowered-wait NonBulk n (waited.Lowered.bulk-wait l) h = let z : _≡_ {A = ℕ} 0 1 = cc in absurd (omega arith)
-lowered-wait Bulk n (waited.Lowered.bulk-wait {m = m} {n = k} l) h = let q : k ≡ n = cc in record { number = m; is = refl; lower = omega arith }
+lowered-wait Bulk n (waited.Lowered.bulk-wait {m = m} {n = k} l) h =
+    let q : k ≡ n = cc in record { number = m; is = refl; lower = omega arith }
 
 -- what else an event is to a chain stays
 abbrev IsNumbered : Role → Type 0
@@ -99,7 +108,8 @@ IsNumbered wait-all = ⊥
 IsNumbered Role.other = Unit {0}
 IsNumbered (wait n) = Unit {0}
 
-lowered-role : (chain : Chain) {e e′ : Event} (r : Role) → Lowered e e′ → role chain e ≡ r → ¬ IsNumbered r → role chain e′ ≡ r
+lowered-role : (chain : Chain) {e e′ : Event} (r : Role) → Lowered e e′ → role chain e ≡ r → ¬ IsNumbered r
+    → role chain e′ ≡ r
 lowered-role chain r same h ne = h
 lowered-role NonBulk r (waited.Lowered.wait l) h ne = absurd (ne (rw (← h) tt))
 lowered-role Bulk r (waited.Lowered.wait l) h ne = absurd (ne (rw (← h) tt))
@@ -118,21 +128,31 @@ wait-no-access waited.MayAdd.wait-all m = List·Memᴰ·not-nil m
 wait-no-access waited.MayAdd.bulk-wait m = List·Memᴰ·not-nil m
 
 -- ---- at least as many groups are made between two events
-commits-cons : (chain : Chain) (e : Event) (es : List Event) (w : ℕ) → commits chain (e ∷ es) (suc w) ≡ makes (role chain e) + commits chain es w
+commits-cons : (chain : Chain) (e : Event) (es : List Event) (w : ℕ)
+    → commits chain (e ∷ es) (suc w) ≡ makes (role chain e) + commits chain es w
 unfolding commits
 commits-cons chain e es zero = omega arith
-commits-cons chain e es (suc w) = ap (λ n. n + makes (role chain (eventAt es w))) (commits-cons chain e es w) ∙ omega arith
+commits-cons chain e es (suc w) =
+    ap (λ n. n + makes (role chain (eventAt es w))) (commits-cons chain e es w) ∙ omega arith
 
 commits-zero : (chain : Chain) (es : List Event) → commits chain es 0 ≡ 0
 unfolding commits
 commits-zero chain es = refl
 
-more-commits : (chain : Chain) {es es′ : List Event} (r : Waited es es′) (w : ℕ) → commits chain es w ≤ commits chain es′ (place r w)
+more-commits : (chain : Chain) {es es′ : List Event} (r : Waited es es′) (w : ℕ)
+    → commits chain es w ≤ commits chain es′ (place r w)
 more-commits chain done w = omega arith
 more-commits chain (keep {e = e} {es = es} q r) zero = omega (arith, commits-zero chain (e ∷ es))
 more-commits chain (keep {e = e} {e′ = e′} {es = es} {es′ = es′} q r) (suc w) =
-    omega (arith, commits-cons chain e es w, commits-cons chain e′ es′ (place r w), lowered-makes chain q, more-commits chain r w)
-more-commits chain (add {e = x} {es′ = es′} q r) w = omega (arith, commits-cons chain x es′ (place r w), more-commits chain r w)
+    omega (
+      arith,
+      commits-cons chain e es w,
+      commits-cons chain e′ es′ (place r w),
+      lowered-makes chain q,
+      more-commits chain r w,
+    )
+more-commits chain (add {e = x} {es′ = es′} q r) w =
+    omega (arith, commits-cons chain x es′ (place r w), more-commits chain r w)
 
 more-between : (chain : Chain) {es es′ : List Event} (r : Waited es es′) (i w : ℕ) → i ≤ w
     → commits chain es w + commits chain es′ (place r i) ≤ commits chain es i + commits chain es′ (place r w)
@@ -142,9 +162,17 @@ more-between chain (keep q r) (suc i) zero l = absurd (omega arith)
 more-between chain (keep {e = e} {e′ = e′} {es = es} {es′ = es′} q r) zero (suc w) l =
     omega (arith, commits-zero chain (e ∷ es), commits-zero chain (e′ ∷ es′), more-commits chain (keep q r) (suc w))
 more-between chain (keep {e = e} {e′ = e′} {es = es} {es′ = es′} q r) (suc i) (suc w) l =
-    omega (arith, commits-cons chain e es w, commits-cons chain e es i, commits-cons chain e′ es′ (place r w), commits-cons chain e′ es′ (place r i), more-between chain r i w (omega arith))
+    omega (
+      arith,
+      commits-cons chain e es w,
+      commits-cons chain e es i,
+      commits-cons chain e′ es′ (place r w),
+      commits-cons chain e′ es′ (place r i),
+      more-between chain r i w (omega arith),
+    )
 more-between chain (add {e = x} {es′ = es′} q r) i w l =
-    omega (arith, commits-cons chain x es′ (place r w), commits-cons chain x es′ (place r i), more-between chain r i w l)
+    omega
+    (arith, commits-cons chain x es′ (place r w), commits-cons chain x es′ (place r i), more-between chain r i w l)
 
 -- ---- so what is closed stays closed
 module _ {es es′ : List Event} (r : Waited es es′) where
@@ -157,13 +185,16 @@ module _ {es es′ : List Event} (r : Waited es es′) where
         more = omega (arith, v .lower, c .more, more-between chain r i w (omega (arith, c .earlier)));
       })
   closes-kept i w l (by-wait-all chain e op lt) =
-      by-wait-all chain (lowered-role chain wait-all (place-event r w l) e (λ b. b)) (lowered-role chain operation (place-event r i (omega arith)) op (λ b. b)) (place-up r i w lt)
+      by-wait-all chain (lowered-role chain wait-all (place-event r w l) e (λ b. b))
+      (lowered-role chain operation (place-event r i (omega arith)) op (λ b. b)) (place-up r i w lt)
 
   closed-kept : (i w : ℕ) → w < length es → closedBy es i w ≡ true → closedBy es′ (place r i) (place r w) ≡ true
   closed-kept i w l h = closes-closed es′ (place r i) (place r w) (closes-kept i w l (closed-closes es i w h))
 
   open-back : (i j : ℕ) → j < length es → OpenUpTo es′ (place r j) (place r i) → OpenUpTo es j i
-  open-back i j l free w le = false-unless-true (closedBy es i w) (λ c. true≢false (sym (closed-kept i w (omega arith) c) ∙ free (place r w) (place-le r w j le)))
+  open-back i j l free w le =
+      false-unless-true (closedBy es i w)
+      (λ c. true≢false (sym (closed-kept i w (omega arith) c) ∙ free (place r w) (place-le r w j le)))
 
   -- a clash of the second list is one of the first
   clash-back : (i j : ℕ) → i < j → i < length es → j < length es → Clash es′ (place r i) (place r j) → Clash es i j
@@ -215,13 +246,15 @@ wait-faultless lengths waited.MayAdd.wait = refl
 wait-faultless lengths waited.MayAdd.wait-all = refl
 wait-faultless lengths waited.MayAdd.bulk-wait = refl
 
-lowered-faultless : (lengths : Lengths) {e e′ : Event} → Lowered e e′ → faultless lengths e ≡ true → faultless lengths e′ ≡ true
+lowered-faultless : (lengths : Lengths) {e e′ : Event} → Lowered e e′ → faultless lengths e ≡ true
+    → faultless lengths e′ ≡ true
 unfolding allowed aligned inRange
 lowered-faultless lengths same h = h
 lowered-faultless lengths (waited.Lowered.wait l) h = refl
 lowered-faultless lengths (waited.Lowered.bulk-wait l) h = refl
 
-pub well-formed-kept : (lengths : Lengths) {es es′ : List Event} → Waited es es′ → length es′ ≤ eventLimit → WellFormed lengths es → WellFormed lengths es′
+pub well-formed-kept : (lengths : Lengths) {es es′ : List Event} → Waited es es′ → length es′ ≤ eventLimit
+    → WellFormed lengths es → WellFormed lengths es′
 well-formed-kept lengths {es} {es′} r n ok = record {
   limits = record { events = n; memories = ok .limits .memories };
   faultless = record {
@@ -246,7 +279,8 @@ lowered-steps m same = refl
 lowered-steps m (waited.Lowered.wait l) = refl
 lowered-steps m (waited.Lowered.bulk-wait l) = refl
 
-lowered-loads : {e e′ : Event} (m : State) → Lowered e e′ → loadOf e′ (readBy (effectOf e′) m) ≡ loadOf e (readBy (effectOf e) m)
+lowered-loads : {e e′ : Event} (m : State) → Lowered e e′
+    → loadOf e′ (readBy (effectOf e′) m) ≡ loadOf e (readBy (effectOf e) m)
 lowered-loads m same = refl
 lowered-loads m (waited.Lowered.wait l) = refl
 lowered-loads m (waited.Lowered.bulk-wait l) = refl
@@ -256,7 +290,8 @@ lasts-kept done m = refl
 lasts-kept (keep {e = e} q r) m = rw (lowered-steps m q) (lasts-kept r (stepped 0 e m))
 lasts-kept (add w r) m = rw (wait-steps m w) (lasts-kept r m)
 
-pub loads-kept : {es es′ : List Event} → Waited es es′ → (m : State) → loadsOf es′ (reads es′ m) ≡ loadsOf es (reads es m)
+pub loads-kept : {es es′ : List Event} → Waited es es′ → (m : State)
+    → loadsOf es′ (reads es′ m) ≡ loadsOf es (reads es m)
 loads-kept done m = refl
 loads-kept (keep {e = e} q r) m = ap₂ _++_ (lowered-loads m q) (rw (lowered-steps m q) (loads-kept r (stepped 0 e m)))
 loads-kept (add w r) m = rw (wait-loads _ w, wait-steps m w) (loads-kept r m)
