@@ -14,7 +14,7 @@ use Rattle.event.specs.declared.ElementType.{ElementType}
 use Rattle.event.specs.declared.ElementType.the-variants.{B32, U32, S32}
 use Rattle.order.specs.Order.{_∈_}
 use Rattle.effect.specs.Memory.{Space, Global, Shared, State, get, put, keep}
-use Rattle.effect.specs.Access.{Access, reading, writing, Has}
+use Rattle.effect.specs.Access.{Access, reading, writing, Has, Meet}
 use Rattle.effect.specs.Element.{width, isSigned, combined, reduce}
 use Rattle.effect.specs.Effect.{Effect, nothing, load, store, copy, bulkCopy, bulkReduction, accessesOf, padded, does, MayShare, alike}
 use Rattle.effect.specs.Theorems.{OnElements, Apart}
@@ -149,10 +149,17 @@ deliver-deliver i j (in-memory Shared at) (in-memory Shared to) bs cs s ne free 
     (write-write cs bs (s .shared) at to (λ b f g h k. free Shared b (has f g) (has h k)))
 
 -- ---- effects whose accesses do not meet
+pub meet-sym : {x y : Access} → Meet x y → Meet y x
+meet-sym m = record {
+  space = m .space;
+  byte = m .byte;
+  in-first = m .in-second;
+  in-second = m .in-first;
+  one-writes = ⊎-swap (m .one-writes);
+}
+
 apart-sym : (a b : Effect) → Apart a b → Apart b a
-apart-sym a b free y x m l meet =
-    free x y l m (record
-    { space = meet .space; byte = meet .byte; in-first = meet .in-second; in-second = meet .in-first; one-writes = ⊎-swap (meet .one-writes) })
+apart-sym a b free y x m l meet = free x y l m (meet-sym meet)
 
 -- what one changes, the other does not touch
 spares : (a b : Effect) (s : State) → Apart a b → (y : Access) → y ∈ accessesOf b

@@ -31,7 +31,7 @@ use Rattle.rules.specs.Right.{WellFormed}
 use Rattle.rules.specs.Outcomes.{exec}
 use Rattle.rules.proofs.Actions.{event, Happens, in-actions}
 use Rattle.rules.proofs.Orders.{other-event, first-of-list, second-of-list}
-use Rattle.rules.proofs.Tests.{may-share-tells}
+use Rattle.rules.proofs.Meeting.{may-share-tells}
 
 -- ---- an aligned reduction begins at an element
 on-elements : (t : ElementType) (dst : ℕ) → dst % 16 ≡ 0 → dst % width t ≡ 0

@@ -1,11 +1,11 @@
 -- The computed answer is right.
 -- Assumes nothing.
-use Prim.Native.Nat.{ℕ, zero, suc, _<_}
+use Prim.Native.Nat.{ℕ, suc, _<_}
 use native.Mathlib.Omega.{arith}
 use native.Mathlib.Decide.{decLt}
 use mathlib.Core.Path.{_≡_, refl, sym, _∙_, ap}
 use mathlib.Core.Logic.{_↔_, ⊎-elim}
-use mathlib.Core.Bool.{Bool, true, false, cond, true≢false}
+use mathlib.Core.Bool.{true, false, true≢false}
 use mathlib.Core.List.{List, [], _∷_, _++_, map, append-assoc, append-nil}
 use mathlib.Core.Option.{Option, none, some}
 use lib.ListN.{length, take, length-append, length-take}
@@ -19,44 +19,15 @@ use Rattle.answer.specs.Table.{eventLimit}
 use Rattle.answer.specs.declared.Answer.the-variants as answer
 use Rattle.rules.specs.Peak.{peak}
 use Rattle.event.specs.Fields.{allowed}
-use Rattle.rules.specs.Faults.{Lengths, aligned, inRange, faultless, orElse, firstOf}
+use Rattle.rules.specs.Faults.{Lengths, aligned, inRange, faultless, firstOf}
 use Rattle.rules.specs.Clashes.{Clash, Clean}
 use Rattle.rules.specs.Tests.{clashes}
-use Rattle.rules.specs.Answers.{lowest, partnerOf, clashWith, checks, orGoOn, judged, answerOf}
-use Rattle.rules.proofs.Counting.{below-or-last}
-use Rattle.rules.proofs.Tests.{clash-tells, clash-sym, clash-events}
+use Rattle.rules.specs.Search.{orElse}
+use Rattle.rules.specs.Answers.{partnerOf, clashWith, checks, orGoOn, judged, answerOf}
+use Rattle.rules.proofs.Search.{below-or-last, Lowest, none-below, lowest-below}
+use Rattle.rules.proofs.Clashes.{clash-tells, clash-sym, clash-events}
 use Rattle.rules.proofs.Prefix.{clashes-same, agree-take, agree-append, clash-up-to}
 use Rattle.rules.specs.Right.{WithinLimits, Faultless, Named}
-
--- ---- the lowest number that passes a test
-module _ (p : ℕ → Bool) where
-  record Lowest (n m : ℕ) : Type 0 where
-    below : m < n
-    passes : p m ≡ true
-    others : (i : ℕ) → i < m → p i ≡ false
-
-  none-below : (n : ℕ) → lowest p n ≡ none → (i : ℕ) → i < n → p i ≡ false
-  none-below zero h i l = absurd (omega arith)
-  none-below (suc n) h i l = by-parts (lowest p n) (p n) refl refl h (none-below n)
-    where
-      by-parts : (o : Option ℕ) (t : Bool) → lowest p n ≡ o → p n ≡ t → orElse o (cond t (some n) none) ≡ none
-          → (lowest p n ≡ none → (k : ℕ) → k < n → p k ≡ false) → p i ≡ false
-      by-parts none false e f g ih = ⊎-elim (λ k. ih e i k) (λ q. rw q f) (below-or-last l)
-      by-parts none true e f g ih = let z : _≡_ {A = ℕ} 0 1 = cc in absurd (omega arith)
-      by-parts (some m) t e f g ih = let z : _≡_ {A = ℕ} 0 1 = cc in absurd (omega arith)
-
-  lowest-below : (n m : ℕ) → lowest p n ≡ some m → Lowest n m
-  lowest-below zero m h = let z : _≡_ {A = ℕ} 0 1 = cc in absurd (omega arith)
-  lowest-below (suc n) m h = by-parts (lowest p n) (p n) refl refl h (lowest-below n m)
-    where
-      by-parts : (o : Option ℕ) (t : Bool) → lowest p n ≡ o → p n ≡ t → orElse o (cond t (some n) none) ≡ some m
-          → (lowest p n ≡ some m → Lowest n m) → Lowest (suc n) m
-      by-parts none true e f g ih =
-          let q : m ≡ n = cc in
-          record { below = omega arith; passes = rw q f; others = λ i l. none-below n e i (omega arith) }
-      by-parts none false e f g ih = let z : _≡_ {A = ℕ} 0 1 = cc in absurd (omega arith)
-      by-parts (some k) t e f g ih =
-          let r = ih (e ∙ g) in record { below = omega arith; passes = r .passes; others = r .others }
 
 -- ---- the answer of faultless events: a clean list is accepted, and of any other the pair is named
 pub data Judgement (es : List Event) : Answer → Type 0 where

@@ -1,9 +1,11 @@
 -- Laws of the rules, and the proofs of the theorems.
 pub mod Booleans
+pub mod Search
 pub mod Counting
 pub mod Actions
 pub mod Orders
-pub mod Tests
+pub mod Meeting
+pub mod Clashes
 pub mod Prefix
 pub mod Peak
 pub mod Range

@@ -1,11 +1,11 @@
 -- Which actions of a list can come either way: the bridge from permitted orders to what a wait has closed.
 -- Assumes nothing.
-use Prim.Native.Nat.{ℕ, zero, suc, _≤_, _<_}
+use Prim.Native.Nat.{ℕ, suc, _≤_, _<_}
 use native.Mathlib.Omega.{arith}
 use native.Mathlib.Decide.{ℕ-discrete}
 use mathlib.Core.Path.{_≡_, sym, _∙_, ap}
-use mathlib.Core.Logic.{_≢_, _↔_, _⊎_, inl, inr, ⊎-elim}
-use mathlib.Core.Bool.{Bool, true, false, true≢false, false≢true}
+use mathlib.Core.Logic.{_≢_, _↔_}
+use mathlib.Core.Bool.{Bool, true, false, true≢false}
 use mathlib.Core.List.{List}
 use lib.Dec.{ltb, leb}
 use borrow.Author.Tests.{ltb-true, leb-true, lt-ltb, le-leb}
@@ -16,26 +16,12 @@ use Rattle.order.proofs.Delay.{false-unless-true}
 use Rattle.order.specs.Theorems.{Closure}
 use Rattle.order.proofs.EitherWay.{either-way}
 use Rattle.rules.specs.Events.{eventAt}
-use Rattle.rules.specs.Closing.{closedBy, isOperation, anyBelow}
+use Rattle.rules.specs.Search.{anyBelow}
+use Rattle.rules.specs.Closing.{closedBy, isOperation}
 use Rattle.rules.specs.Orders.{Action, turn, act, actionsOf, Must, in-turn, started, closed, PermittedOrder, CanComeEitherWay}
-use Rattle.rules.proofs.Booleans.{or-cases, or-right}
-use Rattle.rules.proofs.Counting.{below-or-last, closed-closes, closes-earlier}
+use Rattle.rules.proofs.Search.{some-below, any-below}
+use Rattle.rules.proofs.Counting.{closed-closes, closes-earlier}
 use Rattle.rules.proofs.Actions.{action-discrete, event, rank, rank-event, turn-rank, in-actions, is-in-actions, actions-rank, rank-before}
-
-module _ (p : ℕ → Bool) where
-  pub some-below : (n : ℕ) → anyBelow p n ≡ true → (w : ℕ) × (w < n) × (p w ≡ true)
-  some-below zero h = absurd (false≢true h)
-  some-below (suc n) h = by-cases (or-cases (anyBelow p n) (p n) h) (some-below n)
-    where
-      by-cases : (anyBelow p n ≡ true) ⊎ (p n ≡ true) → (anyBelow p n ≡ true → (w : ℕ) × (w < n) × (p w ≡ true))
-          → (w : ℕ) × (w < suc n) × (p w ≡ true)
-      by-cases (inl k) below = let (w, l, e) = below k in (w, omega arith, e)
-      by-cases (inr e) below = (n, omega arith, e)
-
-  pub any-below : (n w : ℕ) → w < n → p w ≡ true → anyBelow p n ≡ true
-  any-below zero w l h = absurd (omega arith)
-  any-below (suc n) w l h =
-      ⊎-elim (λ k. rw (any-below n w k h)) (λ e. or-right (anyBelow p n) (p n) (rw e at h)) (below-or-last l)
 
 module _ (es : List Event) where
   -- no wait up to event j closes the operation of event i
@@ -53,10 +39,15 @@ module _ (es : List Event) where
 
   -- an operation precedes x just if it is not open up to x
   pub open-not-precedes : (i j : ℕ) → (anyBelow (closedBy es i) (suc j) ≡ false) ↔ OpenUpTo j i
-  open-not-precedes i j = (
-    λ h w le. false-unless-true (closedBy es i w) (λ c. true≢false (sym (any-below (closedBy es i) (suc j) w (omega arith) c) ∙ h)),
-    λ h. false-unless-true (anyBelow (closedBy es i) (suc j)) (λ e. let (w, l, c) = some-below (closedBy es i) (suc j) e in true≢false (sym c ∙ h w (omega arith))),
-  )
+  open-not-precedes i j = (none-closes, not-any)
+    where
+      none-closes : anyBelow (closedBy es i) (suc j) ≡ false → OpenUpTo j i
+      none-closes h w le = false-unless-true (closedBy es i w)
+          (λ c. true≢false (sym (any-below (closedBy es i) (suc j) w (omega arith) c) ∙ h))
+
+      not-any : OpenUpTo j i → anyBelow (closedBy es i) (suc j) ≡ false
+      not-any h = false-unless-true (anyBelow (closedBy es i) (suc j))
+          (λ e. let (w, l, c) = some-below (closedBy es i) (suc j) e in true≢false (sym c ∙ h w (omega arith)))
 
   must-precedes : {a b : Action} → Must es a b → precedes a b ≡ true
   must-precedes (in-turn {i = i} {j = j} h) = lt-ltb i j h
@@ -103,8 +94,10 @@ module _ (es : List Event) where
     turn-kept i (act j) l m lt =
         let k = turn-in m j (omega arith) in
         let start : Before (turn j) (act j) o = ok .keeps (turn j) (act j) k m started in
-        elim (ℕ-discrete i j)
-        [ yes e ↦ rw e start | no ne ↦ transitive (ok .once) (ok .keeps (turn i) (turn j) l k (in-turn (omega arith))) start ]
+        elim (ℕ-discrete i j) [
+          | yes e ↦ rw e start
+          | no ne ↦ transitive (ok .once) (ok .keeps (turn i) (turn j) l k (in-turn (omega arith))) start
+        ]
 
     precedes-kept : (a b : Action) → a ∈ actionsOf es → b ∈ actionsOf es → precedes a b ≡ true → Before a b o
     precedes-kept (turn i) b l m h = turn-kept i b l m (precedes-rank (turn i) b h)
@@ -112,8 +105,10 @@ module _ (es : List Event) where
         let (w, le, c) = some-below (closedBy es i) (suc (event b)) h in
         let k = turn-in m w (omega arith) in
         let close : Before (act i) (turn w) o = ok .keeps (act i) (turn w) l k (closed c) in
-        elim (action-discrete (turn w) b)
-        [ yes e ↦ rw (← e) close | no ne ↦ transitive (ok .once) close (turn-kept w b k m (turn-rank w b (omega arith) ne)) ]
+        elim (action-discrete (turn w) b) [
+          | yes e ↦ rw (← e) close
+          | no ne ↦ transitive (ok .once) close (turn-kept w b k m (turn-rank w b (omega arith) ne))
+        ]
 
   precedes-closure : Closure (actionsOf es) (Must es) precedes
   precedes-closure = record {
@@ -146,8 +141,8 @@ module _ (es : List Event) where
   -- a turn never comes either way with another action of its event or of a later one
   pub turn-fixed : (i : ℕ) (x : Action) → x ∈ actionsOf es → i ≤ event x → turn i ≢ x → ¬ CanComeEitherWay es (turn i) x
   turn-fixed i x m le ne e =
-      true≢false (sym (turn-precedes i x (turn-rank i x le ne)) ∙ either-way action-discrete precedes-closure
-      (actionsOf es) has-order (turn i) x (turn-in m i le) m ne .0 e .0)
+      let free = either-way action-discrete precedes-closure (actionsOf es) has-order (turn i) x (turn-in m i le) m ne in
+      true≢false (sym (turn-precedes i x (turn-rank i x le ne)) ∙ free .0 e .0)
 
   -- both are actions of the list, and of different events
   pub first-of-list : {a b : Action} → CanComeEitherWay es a b → a ∈ actionsOf es
@@ -157,9 +152,11 @@ module _ (es : List Event) where
   second-of-list {b = b} w = w .one-way .permitted .all b .1 (second-in (w .one-way .before))
 
   not-before-start : (i : ℕ) → ¬ CanPrecede (actionsOf es) (Must es) (act i) (turn i)
-  not-before-start i c = asymmetric (c .permitted .once) (c .before)
-      (c .permitted .keeps (turn i) (act i) (c .permitted .all (turn i) .1 (second-in (c .before)))
-      (c .permitted .all (act i) .1 (first-in (c .before))) started)
+  not-before-start i c =
+      let ok = c .permitted in
+      let start : turn i ∈ actionsOf es = ok .all (turn i) .1 (second-in (c .before)) in
+      let acts : act i ∈ actionsOf es = ok .all (act i) .1 (first-in (c .before)) in
+      asymmetric (ok .once) (c .before) (ok .keeps (turn i) (act i) start acts started)
 
   pub other-event : (a b : Action) → CanComeEitherWay es a b → event a ≢ event b
   other-event (turn i) (turn j) w e = w .one-way .permitted .once (turn j) (rw e at (w .one-way .before))

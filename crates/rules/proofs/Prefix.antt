@@ -4,25 +4,22 @@ use Prim.Native.Nat.{ℕ, zero, suc, _<_}
 use native.Mathlib.Omega.{arith}
 use mathlib.Core.Path.{_≡_, refl, sym, _∙_, ap₂}
 use mathlib.Core.Logic.{_↔_}
-use mathlib.Core.Bool.{Bool, not, _&&_, _||_}
+use mathlib.Core.Bool.{not, _&&_}
 use mathlib.Core.List.{List, _++_}
 use lib.ListN.{length, take, length-take, List·getD-append}
 use lib.Seq.{getD-take}
 use Rattle.event.specs.declared.Event.{Event}
 use Rattle.event.specs.declared.Event.the-variants.{Commit}
 use Rattle.rules.specs.Events.{eventAt}
-use Rattle.rules.specs.Closing.{Chain, NonBulk, Bulk, role, after, groups, closedBy, isOperation, anyBelow, isOpen}
+use Rattle.rules.specs.Closing.{Chain, NonBulk, Bulk, role, after, groups, closedBy, isOperation, isOpen}
 use Rattle.rules.specs.Clashes.{Clash}
 use Rattle.rules.specs.Tests.{clashes}
-use Rattle.rules.proofs.Tests.{clash-tells}
+use Rattle.rules.proofs.Search.{any-same}
+use Rattle.rules.proofs.Clashes.{clash-tells}
 
 -- the two lists have the same first n events
 abbrev pub Agree : List Event → List Event → ℕ → Type 0
 Agree es es′ n = (k : ℕ) → k < n → eventAt es k ≡ eventAt es′ k
-
-pub any-same : (p q : ℕ → Bool) (n : ℕ) → ((k : ℕ) → k < n → p k ≡ q k) → anyBelow p n ≡ anyBelow q n
-any-same p q zero h = refl
-any-same p q (suc n) h = ap₂ _||_ (any-same p q n (λ k l. h k (omega arith))) (h n (omega arith))
 
 module _ (es es′ : List Event) where
   groups-same : (chain : Chain) (w : ℕ) → Agree es es′ w → groups chain es w ≡ groups chain es′ w

@@ -7,7 +7,7 @@ use Rattle.answer.proofs.Given.{fits-given}
 use Rattle.rules.specs.Answers.{answerOf, lengthsIn, answerOfFile}
 use Rattle.rules.specs.Theorems.{SomeOrder, EitherWayExactly, ClashUpTo, RangeByBytes, RightAnswer, RightAnswerOfFile, GivenAnswer, Exactly, FirstFault, PeakIsLargest, SameBytes, MoreWaiting, MoreWaitingInFiles, MoreRecording, MoreRecordingInFiles}
 use Rattle.rules.proofs.Orders.{has-order}
-use Rattle.rules.proofs.Tests.{moments-free}
+use Rattle.rules.proofs.Clashes.{moments-free}
 use Rattle.rules.proofs.Prefix.{clash-up-to}
 use Rattle.rules.proofs.Peak.{peak-most, peak-largest, peak-reached}
 use Rattle.rules.proofs.Range.{in-range-means}

@@ -24,7 +24,7 @@ use Rattle.rules.specs.Waited.{MayAdd, Lowered, same, Waited, done, keep
 use Rattle.rules.specs.Waited as waited
 use Rattle.rules.proofs.Counting.{makes, commits, Closes, by-wait, by-wait-all, closed-closes, closes-closed}
 use Rattle.rules.proofs.Orders.{OpenUpTo}
-use Rattle.rules.proofs.Tests.{moments-free, clash-sym, clash-events}
+use Rattle.rules.proofs.Clashes.{moments-free, clash-sym, clash-events}
 use Rattle.rules.specs.Right.{WellFormed}
 use Rattle.rules.proofs.Eager.{stepped, readBy, lasts, reads}
 

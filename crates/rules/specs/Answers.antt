@@ -1,5 +1,5 @@
 -- The answer of a list of items and of a file, computed. Theorem `RightAnswer` says that it is the right one.
-use Prim.Native.Nat.{ℕ, zero, suc}
+use Prim.Native.Nat.{ℕ}
 use mathlib.Core.Bool.{Bool, cond, _&&_}
 use mathlib.Core.List.{List, [], _∷_, _++_}
 use mathlib.Core.Option.{Option, none, some}
@@ -14,18 +14,14 @@ use Rattle.decoder.specs.declared.Item.the-variants.{Decoded, UnknownKind, Wron
 use Rattle.decoder.specs.Kinds.{refusalOf}
 use Rattle.trace.specs.declared.Header.{Header}
 use Rattle.trace.specs.File.{isMemoryLength, Contents, refused, recorded, fileOf}
-use Rattle.rules.specs.Faults.{Lengths, orElse, firstOf, faultOf}
+use Rattle.rules.specs.Search.{lowestBelow}
+use Rattle.rules.specs.Faults.{Lengths, firstOf, faultOf}
 use Rattle.rules.specs.Peak.{peak}
 use Rattle.rules.specs.Tests.{clashes}
 
--- The lowest number below n that passes the test.
-abbrev pub lowest : (ℕ → Bool) → ℕ → Option ℕ
-lowest p zero = none
-lowest p (suc n) = orElse (lowest p n) (cond (p n) (some n) none)
-
 -- The lowest of the events before e that e clashes with, over the list up to e.
 abbrev pub partnerOf : List Event → Event → Option ℕ
-partnerOf before e = lowest (λ i. clashes (before ++ e ∷ []) i (length before)) (length before)
+partnerOf before e = lowestBelow (λ i. clashes (before ++ e ∷ []) i (length before)) (length before)
 
 abbrev pub clashWith : ℕ → Option ℕ → Option Answer
 clashWith j none = none

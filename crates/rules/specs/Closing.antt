@@ -6,6 +6,7 @@ use lib.ListN.{drop}
 use lib.Dec.{eqb}
 use Rattle.event.specs.declared.Event.{Event}
 use Rattle.event.specs.declared.Event.the-variants.{Load, Store, Copy, Commit, Wait, WaitAll, BulkCopy, BulkReduction, BulkCommit, BulkWait}
+use Rattle.rules.specs.Search.{anyIn, anyBelow}
 use Rattle.rules.specs.Events.{eventAt}
 
 pub data Chain : Type 0 where
@@ -94,17 +95,11 @@ abbrev pub closedIn : Chain → List Event → ℕ → List ℕ
 closedIn chain es w = closes (role chain (eventAt es w)) (groups chain es w)
 
 abbrev pub isIn : ℕ → List ℕ → Bool
-isIn i [] = false
-isIn i (j ∷ js) = eqb i j || isIn i js
+isIn i js = anyIn (eqb i) js
 
 -- Event w closes the operation of event i.
 unfoldable pub closedBy : List Event → ℕ → ℕ → Bool
 closedBy es i w = isIn i (closedIn NonBulk es w) || isIn i (closedIn Bulk es w)
-
--- Some number below n passes the test.
-abbrev pub anyBelow : (ℕ → Bool) → ℕ → Bool
-anyBelow p zero = false
-anyBelow p (suc n) = anyBelow p n || p n
 
 -- Of an event i among the first n: it starts an operation, and none of the n closes it. So it is open after them.
 unfoldable pub isOpen : List Event → ℕ → ℕ → Bool

@@ -16,6 +16,7 @@ use Rattle.decoder.specs.Encoding.{offsetOf}
 use Rattle.decoder.specs.Kinds.{refusalOf}
 use Rattle.effect.specs.Memory.{Space, Global, Shared}
 use Rattle.effect.specs.Access.{Access}
+use Rattle.rules.specs.Search.{orElse}
 use Rattle.rules.specs.Events.{accesses}
 
 -- How many bytes each memory has.
@@ -62,10 +63,6 @@ faultless lengths e = allowed e && aligned e && inRange lengths e
 abbrev pub unless : Bool → Answer → Option Answer
 unless true refusal = none
 unless false refusal = some refusal
-
-abbrev pub orElse : {A : Type 0} → Option A → Option A → Option A
-orElse (some a) later = some a
-orElse none later = later
 
 -- The first check of a list that refuses.
 abbrev pub firstOf : List (Option Answer) → Option Answer

@@ -1,4 +1,5 @@
 -- The rules, in document 01's words, and the statements of the theorems about them.
+pub mod Search
 pub mod Events
 pub mod Faults
 pub mod Closing

@@ -1,7 +1,7 @@
 -- The tests by which a clash is computed. Nobody has to believe them: theorem `RightAnswer` says that what they answer is right.
 use Prim.Native.Nat.{ℕ, suc, _+_, min, max}
 use mathlib.Core.Bool.{Bool, true, false, not, _&&_, _||_}
-use mathlib.Core.List.{List, [], _∷_}
+use mathlib.Core.List.{List}
 use lib.Dec.{eqb, ltb}
 use Rattle.event.specs.declared.ElementType.{ElementType}
 use Rattle.event.specs.declared.Event.{Event}
@@ -9,8 +9,9 @@ use Rattle.event.specs.declared.Operation.{Operation}
 use Rattle.event.specs.Fields.{operationNumber, typeNumber}
 use Rattle.effect.specs.Memory.{Space, Global, Shared}
 use Rattle.effect.specs.Access.{Access}
-use Rattle.effect.specs.Effect.{Effect, nothing, load, store, copy, bulkCopy, bulkReduction, accessesOf}
-use Rattle.rules.specs.Events.{effectOf, eventAt}
+use Rattle.effect.specs.Effect.{Effect, nothing, load, store, copy, bulkCopy, bulkReduction}
+use Rattle.rules.specs.Search.{anyIn}
+use Rattle.rules.specs.Events.{effectOf, accesses, eventAt}
 use Rattle.rules.specs.Closing.{isOpen}
 
 abbrev pub sameSpace : Space → Space → Bool
@@ -27,13 +28,8 @@ shareByte x y =
 abbrev pub meet : Access → Access → Bool
 meet x y = shareByte x y && (x .writes || y .writes)
 
-abbrev pub meetsOne : Access → List Access → Bool
-meetsOne x [] = false
-meetsOne x (y ∷ ys) = meet x y || meetsOne x ys
-
 abbrev pub someMeet : List Access → List Access → Bool
-someMeet [] ys = false
-someMeet (x ∷ xs) ys = meetsOne x ys || someMeet xs ys
+someMeet xs ys = anyIn (λ x. anyIn (meet x) ys) xs
 
 -- The effect is a reduction, and its operation and type pass the test.
 abbrev pub reductionWith : (Operation → ElementType → Bool) → Effect → Bool
@@ -52,7 +48,7 @@ mayShare a b = reductionWith (λ o t. reductionWith (sameReduction o t) b) a
 
 -- Accesses of the two meet, and they may not share.
 abbrev pub collide : Event → Event → Bool
-collide e e′ = not (mayShare (effectOf e) (effectOf e′)) && someMeet (accessesOf (effectOf e)) (accessesOf (effectOf e′))
+collide e e′ = not (mayShare (effectOf e) (effectOf e′)) && someMeet (accesses e) (accesses e′)
 
 -- Event j clashes with the earlier event i.
 unfoldable pub clashes : List Event → ℕ → ℕ → Bool
