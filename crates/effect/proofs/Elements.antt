@@ -149,20 +149,23 @@ module _ (signed : Bool) (w : ℕ) (f : ℕ → ℕ → ℕ) (g : ℕ → ℕ �
   by-rank : AnyOrder (Range w) f
   by-rank = record {
     below = f-lt;
-    swap =
-        λ d x y hd hx hy. rank-inj signed w _ _ (f-lt (f d x) y (f-lt d x hd hx) hy)
-        (f-lt (f d y) x (f-lt d y hd hy) hx)
-        (ranked (f d x) y ∙ ap (λ a. g a (rank signed w y)) (ranked d x) ∙ g-swap _ _ _ ∙ sym (ranked (f d y) x ∙ ap (λ a. g a (rank signed w x)) (ranked d y)));
+    swap = λ d x y hd hx hy.
+        rank-inj signed w _ _ (f-lt (f d x) y (f-lt d x hd hx) hy) (f-lt (f d y) x (f-lt d y hd hy) hx)
+        (twice d x y ∙ g-swap _ _ _ ∙ sym (twice d y x));
   }
+    where
+      twice : (d x y : ℕ) → rank signed w (f (f d x) y) ≡ g (g (rank signed w d) (rank signed w x)) (rank signed w y)
+      twice d x y = ranked (f d x) y ∙ ap (λ a. g a (rank signed w y)) (ranked d x)
 
 -- ---- all operations
 pub combined-any-order : (o : Operation) (signed : Bool) (w : ℕ) → AnyOrder (Range w) (combined o signed w)
 combined-any-order And signed w = record { below = and-lt (8 * w); swap = λ d x y hd hx hy. and-swap d x y }
 combined-any-order Or signed w = record { below = or-lt (8 * w); swap = λ d x y hd hx hy. or-swap d x y }
 combined-any-order Xor signed w = record { below = xor-lt (8 * w); swap = λ d x y hd hx hy. xor-swap d x y }
-combined-any-order Add signed w =
-    record
-    { below = λ d x hd hx. mod-lt (d + x) (pow-pos (8 * w)); swap = λ d x y hd hx hy. add-swap (Range w) d x y }
+combined-any-order Add signed w = record {
+  below = λ d x hd hx. mod-lt (d + x) (pow-pos (8 * w));
+  swap = λ d x y hd hx hy. add-swap (Range w) d x y;
+}
 combined-any-order Min signed w =
     by-rank signed w _ min (λ d x hd hx. either-lt (ltb (rank signed w x) (rank signed w d)) hx hd)
     (least (rank signed w)) (λ a b c. omega arith)

@@ -39,7 +39,8 @@ module _ (w : ℕ) where
   rank-orders a b ha hb = go (ltb a half) refl (ltb b half) refl
     where
       go : (ta : Bool) → ltb a half ≡ ta → (tb : Bool) → ltb b half ≡ tb
-          → ltb (rank true (suc w) a) (rank true (suc w) b) ≡ ltZ (cond ta (pos a) (negsuc (Range (suc w) - suc a))) (cond tb (pos b) (negsuc (Range (suc w) - suc b)))
+          → ltb (rank true (suc w) a) (rank true (suc w) b)
+          ≡ ltZ (cond ta (pos a) (negsuc (Range (suc w) - suc a))) (cond tb (pos b) (negsuc (Range (suc w) - suc b)))
       go true e true e′ =
           rw (rank-low a (ltb-true a half e), rank-low b (ltb-true b half e′))
           (ltb-same (a + half) (b + half) a b (λ h. omega arith) (λ h. omega arith))

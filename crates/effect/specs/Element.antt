@@ -1,5 +1,5 @@
--- What a reduction computes: each element of the destination, combined with that of the source. All is over the width w of an
--- element in bytes.
+-- What a reduction computes: each element of the destination, combined with that of the source. All is over the width w of
+-- an element in bytes.
 use Prim.Native.Nat.{ℕ, zero, suc, _+_, _*_, _/_, _%_, _^_}
 use mathlib.Core.Bool.{Bool, true, false, cond}
 use mathlib.Core.List.{List, [], _++_}

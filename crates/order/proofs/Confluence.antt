@@ -62,19 +62,26 @@ module _ {A : Type 0} where
     one-outcome o₁ (a ∷ o₂) once₁ once₂ same commute s =
         let (rest, out) = take-out (same a .1 (List·Memᴰ·head refl)) in
         to-front out (λ x h. commute x a h (first refl (in-tail (distinct once₁ h) (same x .0 (first-in h))))) s
-        ∙ one-outcome rest o₂ (λ x h. once₁ x (was-before out h)) (tail-once once₂)
-        (λ x. (
-          λ m. in-tail (λ e. not-left once₁ out (rw e at m)) (same x .0 (was-in out m)),
-          λ m. ⊎-elim
-              (λ e. absurd (head-once once₂ e m)) (λ k. k) (taken-or-left out (same x .1 (List·Memᴰ·tail m))),
-        ))
+        ∙ one-outcome rest o₂ (λ x h. once₁ x (was-before out h)) (tail-once once₂) (same-rest out)
         (λ x y h k. commute x y (was-before out h) (later k)) (exec a s)
+      where
+        same-rest : {rest : List A} → TakenOut a o₁ rest → SameActions rest o₂
+        same-rest out x = (
+          λ m. in-tail (λ e. not-left once₁ out (rw e at m)) (same x .0 (was-in out m)),
+          λ m. ⊎-elim (λ e. absurd (head-once once₂ e m)) (λ k. k) (taken-or-left out (same x .1 (List·Memᴰ·tail m))),
+        )
 
     -- all permitted orders have one outcome, if every two actions that can come either way commute
     pub all-agree : (acts : List A) (must : A → A → Type 0) → ((a b : A) → EitherWay acts must a b → Commute exec a b)
         → (o₁ o₂ : List A) → Permitted acts must o₁ → Permitted acts must o₂ → (s : S)
         → runs exec o₁ s ≡ runs exec o₂ s
-    all-agree acts must commute o₁ o₂ ok₁ ok₂ = one-outcome o₁ o₂ (ok₁ .once) (ok₂ .once)
+    all-agree acts must commute o₁ o₂ ok₁ ok₂ =
+        one-outcome o₁ o₂ (ok₁ .once) (ok₂ .once)
         (λ a. (λ m. ok₂ .all a .0 (ok₁ .all a .1 m), λ m. ok₁ .all a .0 (ok₂ .all a .1 m)))
-        (λ a b h k. commute a b (record
-        { one-way = record { order = o₁; permitted = ok₁; before = h }; other-way = record { order = o₂; permitted = ok₂; before = k } }))
+        (λ a b h k. commute a b (opposite h k))
+      where
+        opposite : {a b : A} → Before a b o₁ → Before b a o₂ → EitherWay acts must a b
+        opposite h k = record {
+          one-way = record { order = o₁; permitted = ok₁; before = h };
+          other-way = record { order = o₂; permitted = ok₂; before = k };
+        }

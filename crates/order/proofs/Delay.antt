@@ -1,4 +1,4 @@
--- An order with the actions that pass a test delayed: first those that fail it, then those that pass, each in the order they had.
+-- An order with the actions that pass a test delayed: first those that fail it, then those that pass, in the order they had.
 -- Assumes nothing.
 use mathlib.Core.Path.{_≡_, refl, sym, _∙_, ap}
 use mathlib.Core.Logic.{_≢_, _⊎_, inl, inr, ⊎-elim}
@@ -83,7 +83,10 @@ module _ {A : Type 0} where
 
     pub delay-all : (o : List A) → SameActions o (delay o)
     delay-all o a = (
-      λ m. ⊎-elim (λ pa. Memᴰ·append-right (keep fails o) (in-keep p pa m)) (λ pa. Memᴰ·append-left (keep p o) (in-keep fails (ap not pa) m)) (true-or-false (p a)),
+      λ m. ⊎-elim
+          (λ pa. Memᴰ·append-right (keep fails o) (in-keep p pa m))
+          (λ pa. Memᴰ·append-left (keep p o) (in-keep fails (ap not pa) m))
+          (true-or-false (p a)),
       λ m. ⊎-elim (λ k. kept fails o k .0) (λ k. kept p o k .0) (List·Memᴰ·append-cases (keep fails o) m),
     )
 

@@ -1,5 +1,5 @@
--- Two actions of which neither must precede the other can come either way: a permitted order stays permitted if an action and
--- all that must follow it are delayed.
+-- Two actions of which neither must precede the other can come either way: a permitted order stays permitted if an action
+-- and all that must follow it are delayed.
 -- Assumes nothing.
 use mathlib.Core.Path.{_≡_, refl, sym, _∙_}
 use mathlib.Core.Logic.{_≢_, _↔_, _⊎_, inl, inr, ⊎-elim}

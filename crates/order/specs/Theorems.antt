@@ -6,8 +6,8 @@ use mathlib.Core.Bool.{Bool, true, false}
 use mathlib.Core.List.{List}
 use Rattle.order.specs.Order.{_∈_, Before, Permitted, EitherWay, runs, Commute}
 
--- The test `precedes` is `must` with all that follows from it: it passes for what must be, every permitted order keeps it,
--- and it is transitive.
+-- The test `precedes` is `must` with all that follows from it: it passes for what must be, every permitted order keeps
+-- it, and it is transitive.
 pub record Closure {A : Type 0} (actions : List A) (must : A → A → Type 0) (precedes : A → A → Bool) : Type 0 where
   pub includes : (a b : A) → a ∈ actions → b ∈ actions → must a b → precedes a b ≡ true
   pub kept :

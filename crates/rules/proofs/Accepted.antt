@@ -126,7 +126,8 @@ module _ (lengths : Lengths) (more : List Item) where
       (judged lengths (before ++ (e ∷ [])) (items ++ more)) h (judged-more items (before ++ (e ∷ [])))
 
   by-limits : (items : List Item) (t : Bool) → ¬ IsAccepted (cond t (judged lengths [] items) answer.WrongMemoryLength)
-      → cond t (judged lengths [] (items ++ more)) answer.WrongMemoryLength ≡ cond t (judged lengths [] items) answer.WrongMemoryLength
+      → cond t (judged lengths [] (items ++ more)) answer.WrongMemoryLength
+      ≡ cond t (judged lengths [] items) answer.WrongMemoryLength
   by-limits items true h = judged-more items [] h
   by-limits items false h = refl
 

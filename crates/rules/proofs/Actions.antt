@@ -70,12 +70,14 @@ record From (k : ℕ) (es : List Event) (a : Action) : Type 0 where
 
 in-from : (k : ℕ) (es : List Event) {a : Action} → a ∈ actionsFrom k es → From k es a
 in-from k [] m = absurd (List·Memᴰ·not-nil m)
-in-from k (e ∷ es) m = ⊎-elim
-    (λ l. let (q, h) = in-moments k e l in record
-    { place = 0; below = omega arith; counted = omega arith; happens = h })
-    (λ l. let f = in-from (suc k) es l in record
-    { place = suc (f .place); below = omega arith; counted = omega arith; happens = f .happens })
+in-from k (e ∷ es) {a} m = ⊎-elim (λ l. here (in-moments k e l)) (λ l. later-on (in-from (suc k) es l))
     (List·Memᴰ·append-cases (moments k e) m)
+  where
+    here : (event a ≡ k) × Happens a e → From k (e ∷ es) a
+    here (q, h) = record { place = 0; below = omega arith; counted = omega arith; happens = h }
+
+    later-on : From (suc k) es a → From k (e ∷ es) a
+    later-on f = record { place = suc (f .place); below = omega arith; counted = omega arith; happens = f .happens }
 
 is-in-from : (k : ℕ) (es : List Event) (a : Action) (d : ℕ) → d < length es → event a ≡ k + d
     → Happens a (eventAt es d) → a ∈ actionsFrom k es

@@ -1,6 +1,7 @@
 -- What the list's own order gives, computed event by event: each operation acts as soon as it is started.
 -- Assumes nothing.
 use Prim.Native.Nat.{ℕ, suc, _+_, _<_}
+use native.Mathlib.Nat.{zero-add}
 use native.Mathlib.Omega.{arith}
 use mathlib.Core.Path.{_≡_, refl, _∙_, ap}
 use mathlib.Core.Bool.{Bool, true, false, cond}
@@ -14,7 +15,7 @@ use Rattle.order.specs.Order.{runs}
 use Rattle.rules.specs.Events.{effectOf, eventAt}
 use Rattle.rules.specs.Closing.{isOperation}
 use Rattle.rules.specs.Orders.{turn, act, acting, actionsFrom, actionsOf}
-use Rattle.rules.specs.Outcomes.{exec, loadsOf, outcome}
+use Rattle.rules.specs.Outcomes.{exec, loadsOf, Outcome, outcome}
 
 -- ---- event by event, each with its effect
 abbrev pub stepped : ℕ → Event → State → State
@@ -91,13 +92,13 @@ eagerly-apart (e ∷ es) m done k h =
     )
     (eagerly-apart es (stepped 0 e m) (done ++ (read ∷ [])) (suc k) (length-append done (read ∷ []) ∙ omega arith))
 
+-- what a run that lets each operation act as soon as it is started gives
+abbrev pub eagerOutcome : List Event → State → Outcome
+eagerOutcome es m = record { global = lasts es m .global; shared = lasts es m .shared; loads = loadsOf es (reads es m) }
+
 pub eager-outcome : (es : List Event) (global shared : List ℕ)
-    → let m : State = record { global = global; shared = shared; loaded = [] } in
-    outcome es global shared (actionsOf es) ≡ record
-    { global = lasts es m .global; shared = lasts es m .shared; loads = loadsOf es (reads es m) }
+    → outcome es global shared (actionsOf es) ≡ eagerOutcome es (record { global = global; shared = shared; loaded = [] })
 eager-outcome es global shared =
     let m : State = record { global = global; shared = shared; loaded = [] } in
-    rw (
-      runs-eagerly es 0 es (λ d l. let q : 0 + d ≡ d = omega arith in rw q) (initial global shared (length es)),
-      eagerly-apart es m [] 0 refl,
-    )
+    let itself : (d : ℕ) → d < length es → eventAt es (0 + d) ≡ eventAt es d = λ d l. rw (zero-add d) in
+    rw (runs-eagerly es 0 es itself (initial global shared (length es)), eagerly-apart es m [] 0 refl)

@@ -108,7 +108,8 @@ module _ (es : List Event) (aligns : (i : ℕ) → i < length es → aligned (ev
     both-act : momentOf (isOperation (eventAt es (event a))) (event a) ≡ a
         → momentOf (isOperation (eventAt es (event b))) (event b) ≡ b
         → (s : State)
-        → does (event b) (effect es b) (does (event a) (effect es a) s) ≡ does (event a) (effect es a) (does (event b) (effect es b) s)
+        → does (event b) (effect es b) (does (event a) (effect es a) s)
+        ≡ does (event a) (effect es a) (does (event b) (effect es b) s)
     both-act p q =
         commute (event a) (event b) (effect es a) (effect es b) (other-event es a b free)
         (aligned-effect (eventAt es (event a)) (aligns (event a) (in-actions es in-first .0)))

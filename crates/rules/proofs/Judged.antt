@@ -105,7 +105,7 @@ module _ (lengths : Lengths) where
       let (f, a, r) = all-three (allowed e) (aligned e) (inRange lengths e) h in
       rw (f, a, r)
 
-  -- faultless events, whatever items follow: they are refused as they are by themselves, or the judging goes on after them
+  -- faultless events, whatever items follow, are refused as they are by themselves, or the judging goes on after them
   pub data Through (es : List Event) (tail : List Item) : Answer → Type 0 where
     goes-on : Clean es → Through es tail (judged lengths es tail)
     stops : {j p : ℕ} → Named es j p → Through es tail (answer.Clash j p)

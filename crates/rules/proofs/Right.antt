@@ -44,7 +44,11 @@ Fits a = fit (numbersOf a) ≡ true
 
 -- those of codes 5 to 9, which name an event
 event-fits : (j : ℕ) → j < eventLimit
-    → Fits (answer.UnknownKind j) × Fits (answer.WrongBodyLength j) × Fits (answer.FieldNotAllowed j) × Fits (answer.Misaligned j) × Fits (answer.OutOfRange j)
+    → Fits (answer.UnknownKind j)
+    × Fits (answer.WrongBodyLength j)
+    × Fits (answer.FieldNotAllowed j)
+    × Fits (answer.Misaligned j)
+    × Fits (answer.OutOfRange j)
 unfolding fit fitNamed
 event-fits j l = let h = lt-ltb j eventLimit l in (rw h, rw h, rw h, rw h, rw h)
 

@@ -232,11 +232,13 @@ module _ {es es′ : List Event} (r : Waited es es′) where
     where
       between : {i j : ℕ} → Placed r i → Placed r j → ¬ Clash es′ i j
       between {i} {j} p q c =
-          let d : Clash es′ (place r (p .from)) (place r (q .from)) = rw (p .at, q .at) c in
-          let ne : p .from ≢ q .from = λ e. clash-events es′ d (ap (place r) e) in
-          elim (decLt (p .from) (q .from)) [
-            | yes l ↦ clean .no-clash (p .from) (q .from) (clash-back (p .from) (q .from) l (p .below) (q .below) d)
-            | no l ↦ clean .no-clash (q .from) (p .from) (clash-back (q .from) (p .from) (omega arith) (q .below) (p .below) (clash-sym es′ d))
+          let a = p .from in
+          let b = q .from in
+          let d : Clash es′ (place r a) (place r b) = rw (p .at, q .at) c in
+          let ne : a ≢ b = λ e. clash-events es′ d (ap (place r) e) in
+          elim (decLt a b) [
+            | yes l ↦ clean .no-clash a b (clash-back a b l (p .below) (q .below) d)
+            | no l ↦ clean .no-clash b a (clash-back b a (omega arith) (q .below) (p .below) (clash-sym es′ d))
           ]
 
 -- ---- the checks of an event by itself
@@ -257,11 +259,13 @@ pub well-formed-kept : (lengths : Lengths) {es es′ : List Event} → Waited es
     → WellFormed lengths es → WellFormed lengths es′
 well-formed-kept lengths {es} {es′} r n ok = record {
   limits = record { events = n; memories = ok .limits .memories };
-  faultless = record {
-    each = λ j l. ⊎-elim (wait-faultless lengths)
-        (λ p. rw (← p .at) (lowered-faultless lengths (place-event r (p .from) (p .below)) (ok .faultless .each (p .from) (p .below)))) (come-from r j l);
-  };
+  faultless = record { each = λ j l. ⊎-elim (wait-faultless lengths) kept (come-from r j l) };
 }
+  where
+    kept : {j : ℕ} → Placed r j → faultless lengths (eventAt es′ j) ≡ true
+    kept p =
+        rw (← p .at)
+        (lowered-faultless lengths (place-event r (p .from) (p .below)) (ok .faultless .each (p .from) (p .below)))
 
 -- ---- the bytes
 wait-steps : {e : Event} (m : State) → MayAdd e → stepped 0 e m ≡ m

@@ -29,7 +29,8 @@ clashWith j (some partner) = some (Clash j partner)
 
 -- The checks 7 to 10 of an event after others, in order.
 abbrev pub checks : Lengths → List Event → Event → List (Option Answer)
-checks lengths before e = faultOf lengths (length before) (Decoded e) ∷ clashWith (length before) (partnerOf before e) ∷ []
+checks lengths before e =
+    faultOf lengths (length before) (Decoded e) ∷ clashWith (length before) (partnerOf before e) ∷ []
 
 abbrev pub orGoOn : Option Answer → Answer → Answer
 orGoOn (some refusal) later = refusal

@@ -14,8 +14,8 @@ pub record Made (es : List Event) (i : ℕ) (x : Access) : Type 0 where
   pub below : i < length es
   pub made : x ∈ accesses (eventAt es i)
 
--- The access x of event i and the access y of event j clash: they share a byte of one memory, at least one writes it, they
--- aren't two reductions of one operation and one type, and permitted orders exist that put them either way.
+-- The access x of event i and the access y of event j clash: they share a byte of one memory, at least one writes it,
+-- they aren't two reductions of one operation and one type, and permitted orders exist that put them either way.
 pub record AccessesClash (es : List Event) (i : ℕ) (x : Access) (j : ℕ) (y : Access) : Type 0 where
   pub first-made : Made es i x
   pub second-made : Made es j y

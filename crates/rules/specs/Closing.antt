@@ -50,8 +50,8 @@ isOperationIn (wait n) = false
 abbrev pub isOperation : Event → Bool
 isOperation e = isOperationIn (role NonBulk e) || isOperationIn (role Bulk e)
 
--- The operations of a chain, each by the event that started it: those started and not yet committed, and the groups, perhaps
--- empty, the newest first.
+-- The operations of a chain, each by the event that started it: those started and not yet committed, and the groups,
+-- perhaps empty, the newest first.
 pub record Groups : Type 0 where
   pub uncommitted : List ℕ
   pub made : List (List ℕ)

@@ -12,7 +12,7 @@ use Rattle.rules.specs.Events.{effectOf, eventAt}
 use Rattle.rules.specs.Closing.{isOperation}
 use Rattle.rules.specs.Orders.{Action, turn, act}
 
--- What an action does. At the turn of an event that starts an operation no byte moves: the operation moves them when it acts.
+-- What an action does. At the turn of an event that starts an operation no byte moves: the operation does it when it acts.
 abbrev pub exec : List Event → Action → State → State
 exec es (turn i) s = cond (isOperation (eventAt es i)) s (does i (effectOf (eventAt es i)) s)
 exec es (act i) s = does i (effectOf (eventAt es i)) s

@@ -31,8 +31,8 @@ pub record WellFormed (lengths : Lengths) (es : List Event) : Type 0 where
   pub limits : WithinLimits lengths (length es)
   pub faultless : Faultless lengths es
 
--- Code 10 names the first event that clashes with an earlier one, over the list up to that event; partner is the lowest such
--- earlier event.
+-- Code 10 names the first event that clashes with an earlier one, over the list up to that event; partner is the lowest
+-- such earlier event.
 pub record Named (es : List Event) (event partner : ℕ) : Type 0 where
   pub below : event < length es
   pub earlier : partner < event
@@ -56,5 +56,5 @@ pub data Right (lengths : Lengths) : List Item → Answer → Type 0 where
       → Faultless lengths es → Named es event partner
       → Right lengths (map Decoded es ++ more) (answer.Clash event partner)
   -- 1.
-  accepted : (es : List Event)
-      → WellFormed lengths es → Clean es → Right lengths (map Decoded es) (answer.Accepted (length es) (peak es (length es)))
+  accepted : (es : List Event) → WellFormed lengths es → Clean es
+      → Right lengths (map Decoded es) (answer.Accepted (length es) (peak es (length es)))

@@ -1,4 +1,4 @@
--- The tests by which a clash is computed. Nobody has to believe them: theorem `RightAnswer` says that what they answer is right.
+-- The tests by which a clash is computed. Nobody has to believe them: by theorem `RightAnswer` what they answer is right.
 use Prim.Native.Nat.{ℕ, suc, _+_, min, max}
 use mathlib.Core.Bool.{Bool, true, false, not, _&&_, _||_}
 use mathlib.Core.List.{List}

@@ -1,4 +1,5 @@
--- What holds of the rules: conditions 2 and 3. Each statement is a type; proofs/Theorems.antt proves it, as `sameBytes : SameBytes`.
+-- What holds of the rules: conditions 2 and 3. Each statement is a type; proofs/Theorems.antt proves it, as
+-- `sameBytes : SameBytes`.
 use Prim.Native.Nat.{ℕ, suc, _≤_, _<_}
 use mathlib.Core.Path.{_≡_}
 use mathlib.Core.Logic.{_↔_, _⊎_}
@@ -50,16 +51,18 @@ IsRefusedAtEvent a = within 5 10 (codeOf a) ≡ true
 -- The file gets none of 2 to 4, and these are its memory lengths and its items.
 abbrev pub Records : List ℕ → Lengths → List Item → Type 0
 Records f lengths items =
-    fileOf eventLimit f ≡ recorded (record { events = length items; global = lengths .global; shared = lengths .shared }) items
+    fileOf eventLimit f
+    ≡ recorded (record { events = length items; global = lengths .global; shared = lengths .shared }) items
 
 -- ---- The orders.
 
--- Every list has a permitted order: that in which each operation acts as soon as it is started. So `actionsOf` has each action once.
+-- Every list has a permitted order: that in which each operation acts as soon as it is started. So `actionsOf` has each
+-- action once.
 unfoldable pub SomeOrder : Type 0
 SomeOrder = (es : List Event) → PermittedOrder es (actionsOf es)
 
--- An access of an event and one of a later event can come either way exactly when the earlier event starts an operation and no
--- wait up to the later event closes it.
+-- An access of an event and one of a later event can come either way exactly when the earlier event starts an operation
+-- and no wait up to the later event closes it.
 unfoldable pub EitherWayExactly : Type 0
 EitherWayExactly =
     (es : List Event) (i j : ℕ) (x y : Access) → i < j → j < length es
@@ -94,10 +97,12 @@ RightAnswerOfFile =
 
 -- Every answer is one that the sheet's reader gives.
 unfoldable pub GivenAnswer : Type 0
-GivenAnswer = ((lengths : Lengths) (items : List Item) → Given (answerOf lengths items)) × ((f : List ℕ) → Given (answerOfFile f))
+GivenAnswer =
+    ((lengths : Lengths) (items : List Item) → Given (answerOf lengths items))
+    × ((f : List ℕ) → Given (answerOfFile f))
 
--- A list is accepted exactly when it is clean, and refused with a pair exactly when document 01 fixes that pair; there is no
--- third way.
+-- A list is accepted exactly when it is clean, and refused with a pair exactly when document 01 fixes that pair; there is
+-- no third way.
 pub record Exact (lengths : Lengths) (es : List Event) : Type 0 where
   pub accepted : (answerTo lengths es ≡ answer.Accepted (length es) (peak es (length es))) ↔ Clean es
   pub refused : (event partner : ℕ) → (answerTo lengths es ≡ answer.Clash event partner) ↔ Named es event partner
@@ -142,7 +147,8 @@ GiveTheSame es es′ =
     (o o′ : List Action) → PermittedOrder es o → PermittedOrder es′ o′
     → (global shared : List ℕ) → outcome es′ global shared o′ ≡ outcome es global shared o
 
--- More waiting never harms: with waits added and numbers in waits lowered, an accepted list stays accepted, with the same bytes.
+-- More waiting never harms: with waits added and numbers in waits lowered, an accepted list stays accepted, with the same
+-- bytes.
 unfoldable pub MoreWaiting : Type 0
 MoreWaiting =
     (lengths : Lengths) (es es′ : List Event) → Waited es es′ → length es′ ≤ eventLimit

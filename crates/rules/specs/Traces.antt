@@ -20,7 +20,7 @@ use Rattle.decoder.specs.Bodies.{global, shared}
 use Rattle.trace.specs.File.{Contents, recorded, fileOf}
 use Rattle.trace.specs.Theorems.{documentFile}
 use Rattle.rules.specs.Faults.{Lengths}
-use Rattle.rules.specs.Orders.{turn, act, PermittedOrder}
+use Rattle.rules.specs.Orders.{Action, turn, act, PermittedOrder}
 use Rattle.rules.specs.Answers.{answerOfFile}
 use Rattle.rules.specs.Outcomes.{outcome}
 use Rattle.rules.specs.Theorems.{answerTo}
@@ -195,16 +195,21 @@ ReadRight = map (λ t. answerTo sixteen (t .events)) examples ≡ map (λ t. t .
 -- What K1 gives: the bytes of the copy, in the load and in shared memory.
 unfoldable pub CopyLands : Type 0
 CopyLands =
-    outcome (copyOf 4 0 ∷ WaitAll ∷ loadShared 4 0 ∷ []) (1 ∷ 2 ∷ 3 ∷ 4 ∷ []) (9 ∷ 9 ∷ 9 ∷ 9 ∷ 9 ∷ []) (turn 0 ∷ act 0 ∷ turn 1 ∷ turn 2 ∷ [])
+    outcome (copyOf 4 0 ∷ WaitAll ∷ loadShared 4 0 ∷ []) (1 ∷ 2 ∷ 3 ∷ 4 ∷ []) (9 ∷ 9 ∷ 9 ∷ 9 ∷ 9 ∷ [])
+    (turn 0 ∷ act 0 ∷ turn 1 ∷ turn 2 ∷ [])
     ≡ record { global = 1 ∷ 2 ∷ 3 ∷ 4 ∷ []; shared = 1 ∷ 2 ∷ 3 ∷ 4 ∷ 9 ∷ []; loads = (1 ∷ 2 ∷ 3 ∷ 4 ∷ []) ∷ [] }
 
+-- K2.
 abbrev pub unwaited : List Event
 unwaited = copyOf 4 0 ∷ loadShared 4 0 ∷ []
 
--- What K2 gives: in one permitted order the load has the bytes of the copy, in another those that stood there before.
+abbrev pub loadsBy : List Action → List (List ℕ)
+loadsBy order = outcome unwaited (1 ∷ 2 ∷ 3 ∷ 4 ∷ []) (9 ∷ 9 ∷ 9 ∷ 9 ∷ []) order .loads
+
+-- In one permitted order its load has the bytes of the copy, in another those that stood there before.
 unfoldable pub CopyMayNotHaveLanded : Type 0
 CopyMayNotHaveLanded =
     PermittedOrder unwaited (turn 0 ∷ act 0 ∷ turn 1 ∷ [])
-    × (outcome unwaited (1 ∷ 2 ∷ 3 ∷ 4 ∷ []) (9 ∷ 9 ∷ 9 ∷ 9 ∷ []) (turn 0 ∷ act 0 ∷ turn 1 ∷ []) .loads ≡ (1 ∷ 2 ∷ 3 ∷ 4 ∷ []) ∷ [])
+    × (loadsBy (turn 0 ∷ act 0 ∷ turn 1 ∷ []) ≡ (1 ∷ 2 ∷ 3 ∷ 4 ∷ []) ∷ [])
     × PermittedOrder unwaited (turn 0 ∷ turn 1 ∷ act 0 ∷ [])
-    × (outcome unwaited (1 ∷ 2 ∷ 3 ∷ 4 ∷ []) (9 ∷ 9 ∷ 9 ∷ 9 ∷ []) (turn 0 ∷ turn 1 ∷ act 0 ∷ []) .loads ≡ (9 ∷ 9 ∷ 9 ∷ 9 ∷ []) ∷ [])
+    × (loadsBy (turn 0 ∷ turn 1 ∷ act 0 ∷ []) ≡ (9 ∷ 9 ∷ 9 ∷ 9 ∷ []) ∷ [])
