@@ -23,14 +23,12 @@ use Rattle.rules.specs.Right.{WithinLimits, WellFormed}
 use Rattle.rules.specs.Theorems.{IsAccepted}
 
 -- the checks 7 to 9 of event j, each as a test
-abbrev pub faults : ℕ → Bool → Bool → Bool → Option Answer
-faults j f a r =
-    firstOf
-    (unless f (answer.FieldNotAllowed j) ∷ unless a (answer.Misaligned j) ∷ unless r (answer.OutOfRange j) ∷ [])
+abbrev pub alone : ℕ → Bool → Bool → Bool → List (Option Answer)
+alone j f a r = unless f (answer.FieldNotAllowed j) ∷ unless a (answer.Misaligned j) ∷ unless r (answer.OutOfRange j) ∷ []
 
 -- nothing applies just if all pass
 by-tests : (j : ℕ) (f a r : Bool) (o : Option ℕ) (next : Answer)
-    → IsAccepted (orGoOn (firstOf (faults j f a r ∷ clashWith j o ∷ [])) next)
+    → IsAccepted (orGoOn (firstOf (alone j f a r ++ clashWith j o ∷ [])) next)
     → ((f && a && r) ≡ true) × IsAccepted next
 by-tests j true true true none next h = (refl, h)
 by-tests j true true true (some p) next h = absurd (omega arith)
@@ -90,8 +88,8 @@ module _ (lengths : Lengths) where
       record { limits = rw length-map at w; faultless = record { each = accepted-faultless es [] j } }
 
   -- ---- a fault
-  fault-first : (j : ℕ) (f a r : Bool) (o : Option ℕ) {fault : Answer} (next : Answer) → faults j f a r ≡ some fault
-      → orGoOn (firstOf (faults j f a r ∷ clashWith j o ∷ [])) next ≡ fault
+  fault-first : (j : ℕ) (f a r : Bool) (o : Option ℕ) {fault : Answer} (next : Answer) → firstOf (alone j f a r) ≡ some fault
+      → orGoOn (firstOf (alone j f a r ++ clashWith j o ∷ [])) next ≡ fault
   fault-first j true true true o next h = let z : _≡_ {A = ℕ} 0 1 = cc in absurd (omega arith)
   fault-first j true true false o next h = cc
   fault-first j true false r o next h = cc

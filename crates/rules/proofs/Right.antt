@@ -18,13 +18,13 @@ use Rattle.answer.specs.Numbers.{numbersOf}
 use Rattle.answer.specs.Table.{eventLimit, fitNamed, fit}
 use Rattle.rules.specs.Events.{eventAt}
 use Rattle.event.specs.Fields.{allowed}
-use Rattle.rules.specs.Faults.{Lengths, aligned, inRange, faultless, faultOf}
+use Rattle.rules.specs.Faults.{Lengths, aligned, inRange, faultless, firstOf, faultOf}
 use Rattle.rules.specs.Clashes.{Clean}
 use Rattle.rules.specs.Peak.{peak}
 use Rattle.rules.specs.Answers.{judged, areMemoryLengths, answerOf}
 use Rattle.rules.specs.Right.{WithinLimits, Faultless, Right, too-many-events, memory-length, fault, clash, accepted}
 use Rattle.rules.proofs.Judged.{Judgement, passes, refused, Through, goes-on, stops, judged-through, judged-right, within-limits, named-clash, one-judgement}
-use Rattle.rules.proofs.Accepted.{faults, judged-fault}
+use Rattle.rules.proofs.Accepted.{alone, judged-fault}
 use Rattle.rules.proofs.Peak.{peak-most}
 
 -- ---- the items before the first fault
@@ -32,7 +32,7 @@ record Refusal (lengths : Lengths) (j : ℕ) (bad : Item) : Type 0 where
   refusal : Answer
   is : faultOf lengths j bad ≡ some refusal
 
-some-fault : (j : ℕ) (f a r : Bool) → (f && a && r) ≡ false → (x : Answer) × (faults j f a r ≡ some x)
+some-fault : (j : ℕ) (f a r : Bool) → (f && a && r) ≡ false → (x : Answer) × (firstOf (alone j f a r) ≡ some x)
 some-fault j true true true h = absurd (true≢false h)
 some-fault j true true false h = (answer.OutOfRange j, refl)
 some-fault j true false r h = (answer.Misaligned j, refl)
@@ -145,7 +145,7 @@ module _ (lengths : Lengths) where
   known : {x a : Answer} → some x ≡ some a → Fits x → Fits a
   known {x} {a} q h = let e : x ≡ a = cc in rw (← e) h
 
-  tests-fit : (j : ℕ) (f a r : Bool) {x : Answer} → j < eventLimit → faults j f a r ≡ some x → Fits x
+  tests-fit : (j : ℕ) (f a r : Bool) {x : Answer} → j < eventLimit → firstOf (alone j f a r) ≡ some x → Fits x
   tests-fit j true true true l q = let z : _≡_ {A = ℕ} 0 1 = cc in absurd (omega arith)
   tests-fit j true true false l q = known q (event-fits j l .4)
   tests-fit j true false r l q = known q (event-fits j l .3)

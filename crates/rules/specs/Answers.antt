@@ -15,7 +15,7 @@ use Rattle.decoder.specs.Kinds.{refusalOf}
 use Rattle.trace.specs.declared.Header.{Header}
 use Rattle.trace.specs.File.{isMemoryLength, Contents, refused, recorded, fileOf}
 use Rattle.rules.specs.Search.{lowestBelow}
-use Rattle.rules.specs.Faults.{Lengths, firstOf, faultOf}
+use Rattle.rules.specs.Faults.{Lengths, firstOf, checksAlone}
 use Rattle.rules.specs.Peak.{peak}
 use Rattle.rules.specs.Tests.{clashes}
 
@@ -30,7 +30,7 @@ clashWith j (some partner) = some (Clash j partner)
 -- The checks 7 to 10 of an event after others, in order.
 abbrev pub checks : Lengths → List Event → Event → List (Option Answer)
 checks lengths before e =
-    faultOf lengths (length before) (Decoded e) ∷ clashWith (length before) (partnerOf before e) ∷ []
+    checksAlone lengths (length before) e ++ clashWith (length before) (partnerOf before e) ∷ []
 
 abbrev pub orGoOn : Option Answer → Answer → Answer
 orGoOn (some refusal) later = refusal

@@ -69,14 +69,17 @@ abbrev pub firstOf : List (Option Answer) → Option Answer
 firstOf [] = none
 firstOf (check ∷ checks) = orElse check (firstOf checks)
 
--- The fault of item j, if it has one.
-abbrev pub faultOf : Lengths → ℕ → Item → Option Answer
-faultOf lengths j (Decoded e) =
-    firstOf
-    (unless (allowed e) (answer.FieldNotAllowed j)
+-- The checks 7 to 9 of event j, in order.
+abbrev pub checksAlone : Lengths → ℕ → Event → List (Option Answer)
+checksAlone lengths j e =
+    unless (allowed e) (answer.FieldNotAllowed j)
     ∷ unless (aligned e) (answer.Misaligned j)
     ∷ unless (inRange lengths e) (answer.OutOfRange j)
-    ∷ [])
+    ∷ []
+
+-- The fault of item j, if it has one.
+abbrev pub faultOf : Lengths → ℕ → Item → Option Answer
+faultOf lengths j (Decoded e) = firstOf (checksAlone lengths j e)
 faultOf lengths j UnknownKind = some (refusalOf j UnknownKind)
 faultOf lengths j WrongBodyLength = some (refusalOf j WrongBodyLength)
 faultOf lengths j FieldNotAllowed = some (refusalOf j FieldNotAllowed)
