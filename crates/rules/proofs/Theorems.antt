@@ -5,7 +5,7 @@ use mathlib.Core.List.{_∷_}
 use lib.ListN.{length}
 use Rattle.answer.proofs.Given.{fits-given}
 use Rattle.rules.specs.Answers.{answerOf, lengthsIn, answerOfFile}
-use Rattle.rules.specs.Theorems.{SomeOrder, EitherWayExactly, ClashUpTo, RangeByBytes, RightAnswer, RightAnswerOfFile, GivenAnswer, Exactly, FirstFault, PeakIsLargest, SameBytes, MoreWaiting, MoreWaitingInFiles, MoreRecording, MoreRecordingInFiles}
+use Rattle.rules.specs.Theorems.{SomeOrder, EitherWayWhileOpen, ClashUpTo, RangeByBytes, RightAnswer, RightAnswerOfFile, GivenAnswer, Exactly, FirstFault, PeakIsLargest, SameBytes, MoreWaiting, MoreWaitingInFiles, MoreRecording, MoreRecordingInFiles}
 use Rattle.rules.proofs.Orders.{has-order}
 use Rattle.rules.proofs.Clashes.{moments-free}
 use Rattle.rules.proofs.Prefix.{clash-up-to}
@@ -20,9 +20,9 @@ pub someOrder : SomeOrder
 unfolding SomeOrder
 someOrder = has-order
 
-pub eitherWayExactly : EitherWayExactly
-unfolding EitherWayExactly
-eitherWayExactly es i j x y = moments-free es i j
+pub eitherWayWhileOpen : EitherWayWhileOpen
+unfolding EitherWayWhileOpen
+eitherWayWhileOpen es i j x y = moments-free es i j
 
 pub clashUpTo : ClashUpTo
 unfolding ClashUpTo

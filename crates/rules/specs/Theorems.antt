@@ -63,8 +63,8 @@ SomeOrder = (es : List Event) → PermittedOrder es (actionsOf es)
 
 -- An access of an event and one of a later event can come either way exactly when the earlier event starts an operation
 -- and no wait up to the later event closes it.
-unfoldable pub EitherWayExactly : Type 0
-EitherWayExactly =
+unfoldable pub EitherWayWhileOpen : Type 0
+EitherWayWhileOpen =
     (es : List Event) (i j : ℕ) (x y : Access) → i < j → j < length es
     → CanComeEitherWay es (happensAt i (eventAt es i) x) (happensAt j (eventAt es j) y)
     ↔ ((isOperation (eventAt es i) ≡ true) × ((w : ℕ) → w ≤ j → closedBy es i w ≡ false))
