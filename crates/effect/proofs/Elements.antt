@@ -17,18 +17,18 @@ use Rattle.event.specs.declared.Operation.{Operation}
 use Rattle.event.specs.declared.Operation.the-variants.{And, Or, Xor, Add, Min, Max}
 use Rattle.little_endian.specs.Number.{numberAt, bytesOf}
 use Rattle.little_endian.proofs.Widths.{there, length-bytes}
-use Rattle.effect.specs.Element.{Range, element, rank, combined, combineFirst, combine}
+use Rattle.effect.specs.Element.{bound, elementIn, rank, combined, combineFirst, combine}
 
 -- ---- numbers of w bytes
 
-range-is : (w : ℕ) → Range w ≡ 256 ^ w
-range-is zero = refl
-range-is (suc w) = rw (mul-suc 8 w, pow-add, pow-succ' 256 w, range-is w) (omega arith)
+bound-is : (w : ℕ) → bound w ≡ 256 ^ w
+bound-is zero = refl
+bound-is (suc w) = rw (mul-suc 8 w, pow-add, pow-succ' 256 w, bound-is w) (omega arith)
 
-pub range-suc : (w : ℕ) → Range (suc w) ≡ Range w * 256
-range-suc w = rw (mul-suc 8 w, pow-add)
+pub bound-suc : (w : ℕ) → bound (suc w) ≡ bound w * 256
+bound-suc w = rw (mul-suc 8 w, pow-add)
 
-pub element-lt : (w : ℕ) (bs : List ℕ) → element w bs < Range w
+pub element-lt : (w : ℕ) (bs : List ℕ) → elementIn w bs < bound w
 element-lt w bs = mod-lt (numberAt w bs 0) (pow-pos (8 * w))
 
 number-take : (w k : ℕ) (bs : List ℕ) (i : ℕ) → i + w ≤ k → numberAt w (take k bs) i ≡ numberAt w bs i
@@ -38,11 +38,11 @@ number-take (suc w) k bs i h =
     ap₂ (λ low high. low + 256 * high) (getD-take k bs i 0 (omega arith)) (number-take w k bs (i + 1) (omega arith))
 
 -- an element is in the first w bytes
-pub element-take : (w k : ℕ) (bs : List ℕ) → w ≤ k → element w (take k bs) ≡ element w bs
-element-take w k bs h = ap (λ n. n % Range w) (number-take w k bs 0 (omega arith))
+pub element-take : (w k : ℕ) (bs : List ℕ) → w ≤ k → elementIn w (take k bs) ≡ elementIn w bs
+element-take w k bs h = ap (λ n. n % bound w) (number-take w k bs 0 (omega arith))
 
-pub element-bytes : (w n : ℕ) (rest : List ℕ) → n < Range w → element w (bytesOf w n ++ rest) ≡ n
-element-bytes w n rest h = ap (λ k. k % Range w) (there w n [] rest (rw (← range-is w) h)) ∙ mod-eq-of-lt h
+pub element-bytes : (w n : ℕ) (rest : List ℕ) → n < bound w → elementIn w (bytesOf w n ++ rest) ≡ n
+element-bytes w n rest h = ap (λ k. k % bound w) (there w n [] rest (rw (← bound-is w) h)) ∙ mod-eq-of-lt h
 
 pub length-combineFirst : (w : ℕ) (f : ℕ → ℕ → ℕ) (n : ℕ) (ds xs : List ℕ) → length (combineFirst w f n ds xs) ≡ n * w
 length-combineFirst w f zero ds xs = omega arith
@@ -114,14 +114,14 @@ add-swap : (m d x y : ℕ) → ((d + x) % m + y) % m ≡ ((d + y) % m + x) % m
 add-swap m d x y = mod-add-mod (d + x) m y ∙ ap (λ n. n % m) (add-right-comm d x y) ∙ sym (mod-add-mod (d + y) m x)
 
 -- ---- min, max: the law from that of ranks
-rank-inj : (signed : Bool) (w a b : ℕ) → a < Range w → b < Range w → rank signed w a ≡ rank signed w b → a ≡ b
+rank-inj : (signed : Bool) (w a b : ℕ) → a < bound w → b < bound w → rank signed w a ≡ rank signed w b → a ≡ b
 rank-inj false w a b ha hb e = e
-rank-inj true w a b ha hb e = sym (back a ha) ∙ ap (λ n. (n + (Range w - Range w / 2)) % Range w) e ∙ back b hb
+rank-inj true w a b ha hb e = sym (back a ha) ∙ ap (λ n. (n + (bound w - bound w / 2)) % bound w) e ∙ back b hb
   where
-    back : (n : ℕ) → n < Range w → (rank true w n + (Range w - Range w / 2)) % Range w ≡ n
+    back : (n : ℕ) → n < bound w → (rank true w n + (bound w - bound w / 2)) % bound w ≡ n
     back n h =
-        mod-add-mod (n + Range w / 2) (Range w) (Range w - Range w / 2)
-        ∙ ap (λ k. k % Range w) (omega (arith, div-le-self (Range w) 2)) ∙ add-mod-right n (Range w) ∙ mod-eq-of-lt h
+        mod-add-mod (n + bound w / 2) (bound w) (bound w - bound w / 2)
+        ∙ ap (λ k. k % bound w) (omega (arith, div-le-self (bound w) 2)) ∙ add-mod-right n (bound w) ∙ mod-eq-of-lt h
 
 module _ (p : ℕ → ℕ) (d x : ℕ) where
   least : p (cond (ltb (p x) (p d)) x d) ≡ min (p d) (p x)
@@ -143,10 +143,10 @@ either-lt true ha hb = ha
 either-lt false ha hb = hb
 
 module _ (signed : Bool) (w : ℕ) (f : ℕ → ℕ → ℕ) (g : ℕ → ℕ → ℕ)
-    (f-lt : (d x : ℕ) → d < Range w → x < Range w → f d x < Range w)
+    (f-lt : (d x : ℕ) → d < bound w → x < bound w → f d x < bound w)
     (ranked : (d x : ℕ) → rank signed w (f d x) ≡ g (rank signed w d) (rank signed w x))
     (g-swap : (a b c : ℕ) → g (g a b) c ≡ g (g a c) b) where
-  by-rank : AnyOrder (Range w) f
+  by-rank : AnyOrder (bound w) f
   by-rank = record {
     below = f-lt;
     swap = λ d x y hd hx hy.
@@ -158,13 +158,13 @@ module _ (signed : Bool) (w : ℕ) (f : ℕ → ℕ → ℕ) (g : ℕ → ℕ �
       twice d x y = ranked (f d x) y ∙ ap (λ a. g a (rank signed w y)) (ranked d x)
 
 -- ---- all operations
-pub combined-any-order : (o : Operation) (signed : Bool) (w : ℕ) → AnyOrder (Range w) (combined o signed w)
+pub combined-any-order : (o : Operation) (signed : Bool) (w : ℕ) → AnyOrder (bound w) (combined o signed w)
 combined-any-order And signed w = record { below = and-lt (8 * w); swap = λ d x y hd hx hy. and-swap d x y }
 combined-any-order Or signed w = record { below = or-lt (8 * w); swap = λ d x y hd hx hy. or-swap d x y }
 combined-any-order Xor signed w = record { below = xor-lt (8 * w); swap = λ d x y hd hx hy. xor-swap d x y }
 combined-any-order Add signed w = record {
   below = λ d x hd hx. mod-lt (d + x) (pow-pos (8 * w));
-  swap = λ d x y hd hx hy. add-swap (Range w) d x y;
+  swap = λ d x y hd hx hy. add-swap (bound w) d x y;
 }
 combined-any-order Min signed w =
     by-rank signed w _ min (λ d x hd hx. either-lt (ltb (rank signed w x) (rank signed w d)) hx hd)

@@ -2,7 +2,7 @@
 -- Assumes nothing.
 use mathlib.Core.Path.{refl}
 use Rattle.little_endian.specs.Number.{numberAt, bytesOf}
-use Rattle.effect.specs.Theorems.{Commutes, ComparesAsTwosComplement, DocumentElements}
+use Rattle.effect.specs.Theorems.{Commutes, ComparesAsTwosComplement, elements, DocumentElements}
 use Rattle.effect.proofs.Commute.{commute}
 use Rattle.effect.proofs.TwosComplement.{rank-orders}
 
@@ -15,5 +15,5 @@ unfolding ComparesAsTwosComplement
 comparesAsTwosComplement = rank-orders
 
 pub documentElements : DocumentElements
-unfolding DocumentElements numberAt bytesOf
-documentElements = (refl, refl, refl)
+unfolding DocumentElements elements numberAt bytesOf
+documentElements = refl

@@ -12,13 +12,13 @@ use Rattle.event.specs.declared.ElementType.the-variants.{B32, U32, S32}
 use Rattle.event.specs.declared.Operation.{Operation}
 use Rattle.event.specs.declared.Operation.the-variants.{And, Or, Xor, Add, Min, Max}
 
--- How many numbers have w bytes.
-abbrev pub Range : ℕ → ℕ
-Range w = 2 ^ (8 * w)
+-- Numbers of w bytes are below this: 2^32 for 4 bytes.
+abbrev pub bound : ℕ → ℕ
+bound w = 2 ^ (8 * w)
 
--- The number in the first w bytes. (Bytes are below 256, so it is below the range; `%` says so of any list of numbers.)
-abbrev pub element : ℕ → List ℕ → ℕ
-element w bytes = numberAt w bytes 0 % Range w
+-- The number in the first w bytes. (Bytes are below 256, so it is below the bound; `%` says so of any list of numbers.)
+abbrev pub elementIn : ℕ → List ℕ → ℕ
+elementIn w bytes = numberAt w bytes 0 % bound w
 
 -- 4-byte elements.
 abbrev pub width : ElementType → ℕ
@@ -34,21 +34,21 @@ isSigned S32 = true
 -- The place of a number in the order: s32 compares as two's complement, so that the upper half comes before the lower.
 abbrev pub rank : Bool → ℕ → ℕ → ℕ
 rank false w n = n
-rank true w n = (n + Range w / 2) % Range w
+rank true w n = (n + bound w / 2) % bound w
 
--- Destination d combined with source x. Add wraps at 2^32.
+-- Destination d combined with source x. Add wraps at the bound, which is 2^32 for 4-byte elements.
 abbrev pub combined : Operation → Bool → ℕ → ℕ → ℕ → ℕ
 combined And signed w d x = bitAnd d x
 combined Or signed w d x = bitOr d x
 combined Xor signed w d x = bitXor d x
-combined Add signed w d x = (d + x) % Range w
+combined Add signed w d x = (d + x) % bound w
 combined Min signed w d x = cond (ltb (rank signed w x) (rank signed w d)) x d
 combined Max signed w d x = cond (ltb (rank signed w d) (rank signed w x)) x d
 
 -- The first n elements of ds, each combined with the same element of xs.
 abbrev pub combineFirst : ℕ → (ℕ → ℕ → ℕ) → ℕ → List ℕ → List ℕ → List ℕ
 combineFirst w f zero ds xs = []
-combineFirst w f (suc n) ds xs = bytesOf w (f (element w ds) (element w xs)) ++ combineFirst w f n (drop w ds) (drop w xs)
+combineFirst w f (suc n) ds xs = bytesOf w (f (elementIn w ds) (elementIn w xs)) ++ combineFirst w f n (drop w ds) (drop w xs)
 
 -- All elements that ds holds whole.
 abbrev pub combine : ℕ → (ℕ → ℕ → ℕ) → List ℕ → List ℕ → List ℕ

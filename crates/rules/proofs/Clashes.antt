@@ -16,7 +16,7 @@ use Rattle.rules.specs.Search.{anyBelow}
 use Rattle.rules.specs.Events.{effectOf, accesses, eventAt}
 use Rattle.rules.specs.Closing.{closedBy, isOperation, isOpen}
 use Rattle.rules.specs.Orders.{Action, turn, act, momentOf, actionsOf, CanComeEitherWay}
-use Rattle.rules.specs.Clashes.{Clash}
+use Rattle.rules.specs.Clashes.{EventsClash}
 use Rattle.rules.specs.Tests.{mayShare, someMeet, collide, clashes}
 use Rattle.rules.proofs.Booleans.{Tells, and-tells, not-tells, itself}
 use Rattle.rules.proofs.Actions.{event, is-in-actions}
@@ -82,7 +82,7 @@ module _ (es : List Event) where
   abbrev Free : ℕ → ℕ → Type 0
   Free i j = CanComeEitherWay es (momentOf (isOperation (eventAt es i)) i) (momentOf (isOperation (eventAt es j)) j)
 
-  pub clash-tells : (i j : ℕ) → i < j → j < length es → Tells (clashes es i j) (Clash es i j)
+  pub clash-tells : (i j : ℕ) → i < j → j < length es → Tells (clashes es i j) (EventsClash es i j)
   unfolding clashes
   clash-tells i j lt below = Iff·trans
       (and-tells (isOpen es (suc j) i) (collide (eventAt es i) (eventAt es j))
@@ -90,7 +90,7 @@ module _ (es : List Event) where
       (collide-tells (eventAt es i) (eventAt es j)))
       (there, back)
     where
-      there : Free i j × Collide (eventAt es i) (eventAt es j) → Clash es i j
+      there : Free i j × Collide (eventAt es i) (eventAt es j) → EventsClash es i j
       there (free, (no-share, s)) = record {
         x = s .one;
         y = s .has .one;
@@ -103,17 +103,17 @@ module _ (es : List Event) where
         };
       }
 
-      meets : Clash es i j → SomeMeet (accesses (eventAt es i)) (accesses (eventAt es j))
+      meets : EventsClash es i j → SomeMeet (accesses (eventAt es i)) (accesses (eventAt es j))
       meets c = record {
         one = c .x;
         among = c .clash .first-made .made;
         has = record { one = c .y; among = c .clash .second-made .made; has = c .clash .meet };
       }
 
-      back : Clash es i j → Free i j × Collide (eventAt es i) (eventAt es j)
+      back : EventsClash es i j → Free i j × Collide (eventAt es i) (eventAt es j)
       back c = (c .clash .either-way, (c .clash .may-not-share, meets c))
 
-  pub clash-sym : {i j : ℕ} → Clash es i j → Clash es j i
+  pub clash-sym : {i j : ℕ} → EventsClash es i j → EventsClash es j i
   clash-sym c = record {
     x = c .y;
     y = c .x;
@@ -127,7 +127,7 @@ module _ (es : List Event) where
   }
 
   -- of two events that clash, one is earlier
-  pub clash-events : {i j : ℕ} → Clash es i j → i ≢ j
+  pub clash-events : {i j : ℕ} → EventsClash es i j → i ≢ j
   clash-events {i} {j} c e =
       other-event es _ _ (c .clash .either-way)
       (event-moment (isOperation (eventAt es i)) i ∙ e ∙ sym (event-moment (isOperation (eventAt es j)) j))

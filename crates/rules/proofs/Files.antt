@@ -3,7 +3,7 @@
 use Prim.Native.Nat.{ℕ, zero, suc, _+_, _-_, _≤_, _<_}
 use native.Mathlib.Omega.{arith}
 use mathlib.Core.Path.{_≡_, refl, sym, _∙_, ap, ap₂}
-use mathlib.Core.Bool.{Bool, true, false, _&&_, true≢false}
+use mathlib.Core.Bool.{Bool, true, false, _&&_, true≢false, false≢true}
 use mathlib.Core.List.{List, [], _∷_, _++_, map}
 use lib.ListN.{length, length-map}
 use lib.Dec.{leb}
@@ -24,11 +24,16 @@ use Rattle.trace.specs.File.{eventsIn, headerIn, isShape, isMemoryLength, first
 use Rattle.trace.proofs.Faults.{length-first, further}
 use Rattle.trace.proofs.Shapes.{formed}
 use Rattle.rules.specs.Faults.{Lengths}
+use Rattle.rules.specs.Orders.{Action, PermittedOrder}
+use Rattle.rules.specs.Clashes.{Clean}
+use Rattle.rules.specs.Right.{WellFormed}
+use Rattle.rules.specs.Outcomes.{outcome}
 use Rattle.rules.specs.Answers.{answerOf, lengthsIn, answerOfContents, answerOfFile}
 use Rattle.rules.specs.Waited.{Waited, Extended}
 use Rattle.rules.specs.Theorems.{answerTo, codeOf, IsAccepted, IsRefusedAtEvent, Records, GiveTheSame}
 use Rattle.rules.proofs.Right.{Fits, answer-right, right-fits}
-use Rattle.rules.proofs.Lists.{still-accepted, still-the-same, still-refused}
+use Rattle.rules.proofs.Accepted.{accepted-items, accepted-well-formed}
+use Rattle.rules.proofs.Lists.{accepted-clean, same-bytes, still-accepted, still-the-same, still-refused}
 
 -- ---- the refusals of a shape are 2, 3 and 4
 module _ (P : Answer → Type 0) where
@@ -92,6 +97,44 @@ file-fits f = by-reading (reading f)
     by-reading (shapeless code fits) = fits
     by-reading (shaped few) = list-fits (lengthsIn (headerIn f)) (itemsIn f)
 
+-- ---- an accepted file
+-- the file holds these events, and they are accepted
+record Held (f : List ℕ) : Type 0 where
+  lengths : Lengths
+  events : List Event
+  records : Records f lengths (map Decoded events)
+  passes : IsAccepted (answerTo lengths events)
+
+shaped-held : (f : List ℕ) → fileOf eventLimit f ≡ recorded (headerIn f) (itemsIn f)
+    → IsAccepted (answerOf (lengthsIn (headerIn f)) (itemsIn f)) → Held f
+shaped-held f e h =
+    let v = accepted-items (lengthsIn (headerIn f)) (itemsIn f) h in
+    let n : eventsIn f ≡ length (map Decoded (v .events)) = sym (length-first (itemIn f) (eventsIn f)) ∙ ap length (v .are) in
+    record {
+      lengths = lengthsIn (headerIn f);
+      events = v .events;
+      records = e ∙ ap₂ (headed f) n (v .are);
+      passes = rw (v .are) at h;
+    }
+  where
+    headed : List ℕ → ℕ → List Item → Contents
+    headed g n items = recorded (record { events = n; global = headerIn g .global; shared = headerIn g .shared }) items
+
+held : (f : List ℕ) → IsAccepted (answerOfFile f) → Held f
+unfolding answerOfFile
+held f h = by-reading (reading f) refl h
+  where
+    by-reading : {c : Contents} → Read f c → fileOf eventLimit f ≡ c → IsAccepted (answerOfContents c) → Held f
+    by-reading (shapeless {answer = a} code fits) e k = absurd (false≢true (ap (within 2 4) (sym k) ∙ code))
+    by-reading (shaped few) e k = shaped-held f e k
+
+pub accepted-file : (f : List ℕ) → IsAccepted (answerOfFile f)
+    → (lengths : Lengths) × (es : List Event) × Records f lengths (map Decoded es) × WellFormed lengths es × Clean es
+accepted-file f h =
+    let v = held f h in
+    let ok = v .passes in
+    (v .lengths, v .events, v .records, accepted-well-formed (v .lengths) (v .events) ok, accepted-clean (v .lengths) (v .events) ok)
+
 -- ---- more waiting
 few-recorded : (f : List ℕ) (header : Header) (items : List Item) → fileOf eventLimit f ≡ recorded header items
     → length items ≤ eventLimit
@@ -103,21 +146,28 @@ few-recorded f header items e = by-reading (reading f) e
         let same : itemsIn f ≡ items = cc in
         rw (← same, length-first (itemIn f) (eventsIn f)) few
 
+accepted-list : (f : List ℕ) (lengths : Lengths) (es : List Event) → Records f lengths (map Decoded es)
+    → IsAccepted (answerOfFile f) → IsAccepted (answerTo lengths es)
+accepted-list f lengths es holds h = rw (answer-recorded f _ (map Decoded es) holds) at h
+
+pub same-bytes-file : (f : List ℕ) (lengths : Lengths) (es : List Event) → Records f lengths (map Decoded es)
+    → IsAccepted (answerOfFile f)
+    → (o₁ o₂ : List Action) → PermittedOrder es o₁ → PermittedOrder es o₂
+    → (global shared : List ℕ) → outcome es global shared o₁ ≡ outcome es global shared o₂
+same-bytes-file f lengths es holds h = same-bytes lengths es (accepted-list f lengths es holds h)
+
 module _ (f f′ : List ℕ) (lengths : Lengths) (es es′ : List Event)
     (holds : Records f lengths (map Decoded es)) (holds′ : Records f′ lengths (map Decoded es′)) (r : Waited es es′)
   where
     few′ : length es′ ≤ eventLimit
     few′ = rw length-map at (few-recorded f′ _ (map Decoded es′) holds′)
 
-    accepted-list : IsAccepted (answerOfFile f) → IsAccepted (answerTo lengths es)
-    accepted-list h = rw (answer-recorded f _ (map Decoded es) holds) at h
-
     pub still-accepted-file : IsAccepted (answerOfFile f) → IsAccepted (answerOfFile f′)
     still-accepted-file h =
-        rw (answer-recorded f′ _ (map Decoded es′) holds′) (still-accepted lengths r few′ (accepted-list h))
+        rw (answer-recorded f′ _ (map Decoded es′) holds′) (still-accepted lengths r few′ (accepted-list f lengths es holds h))
 
     pub still-the-same-file : IsAccepted (answerOfFile f) → GiveTheSame es es′
-    still-the-same-file h = still-the-same lengths r few′ (accepted-list h)
+    still-the-same-file h = still-the-same lengths r few′ (accepted-list f lengths es holds h)
 
 -- ---- more recording
 same-first : (a b : ℕ → Item) (n : ℕ) → ((i : ℕ) → i < n → a i ≡ b i) → firstItems a n ≡ firstItems b n

@@ -20,19 +20,19 @@ use Rattle.answer.specs.declared.Answer.the-variants as answer
 use Rattle.rules.specs.Peak.{peak}
 use Rattle.event.specs.Fields.{allowed}
 use Rattle.rules.specs.Faults.{Lengths, aligned, inRange, faultless, firstOf}
-use Rattle.rules.specs.Clashes.{Clash, Clean}
+use Rattle.rules.specs.Clashes.{EventsClash, Clean}
 use Rattle.rules.specs.Tests.{clashes}
 use Rattle.rules.specs.Search.{orElse}
 use Rattle.rules.specs.Answers.{partnerOf, clashWith, checks, orGoOn, judged, answerOf}
 use Rattle.rules.proofs.Search.{below-or-last, Lowest, none-below, lowest-below}
 use Rattle.rules.proofs.Clashes.{clash-tells, clash-sym, clash-events}
 use Rattle.rules.proofs.Prefix.{clashes-same, agree-take, agree-append, clash-up-to}
-use Rattle.rules.specs.Right.{WithinLimits, Faultless, Named}
+use Rattle.rules.specs.Right.{WithinLimits, Faultless, ClashingPair}
 
 -- ---- the answer of faultless events: a clean list is accepted, and of any other the pair is named
 pub data Judgement (es : List Event) : Answer → Type 0 where
   passes : Clean es → Judgement es (answer.Accepted (length es) (peak es (length es)))
-  refused : {j partner : ℕ} → Named es j partner → Judgement es (answer.Clash j partner)
+  refused : {j partner : ℕ} → ClashingPair es j partner → Judgement es (answer.Clash j partner)
 
 -- ---- no event of the list clashes with an earlier one
 abbrev Passed : List Event → Type 0
@@ -46,7 +46,7 @@ passed-clean es passed = record {
   ];
 }
   where
-    earlier : (i j : ℕ) → i < j → ¬ Clash es i j
+    earlier : (i j : ℕ) → i < j → ¬ EventsClash es i j
     earlier i j l c =
         true≢false
         (sym (clash-tells es i j l (c .clash .second-made .below) .1 c) ∙ passed j i (c .clash .second-made .below) l)
@@ -72,7 +72,7 @@ module _ (before : List Event) (e : Event) where
   module _ (rest : List Event) (passed : Passed before) where
     -- one that clashes with an earlier one: it is the first that does
     named : (p : ℕ) → Lowest (λ i. clashes (before ++ (e ∷ [])) i (length before)) (length before) p
-        → Named (before ++ (e ∷ rest)) (length before) p
+        → ClashingPair (before ++ (e ∷ rest)) (length before) p
     named p low = record {
       below = omega (arith, length-append before (e ∷ rest));
       earlier = low .below;
@@ -85,7 +85,7 @@ module _ (before : List Event) (e : Event) where
     }
       where
         tells : (i : ℕ) → i < length before → (clashes (before ++ (e ∷ [])) i (length before) ≡ true)
-            ↔ Clash (before ++ (e ∷ [])) i (length before)
+            ↔ EventsClash (before ++ (e ∷ [])) i (length before)
         tells i l = clash-tells (before ++ (e ∷ [])) i (length before) l (omega (arith, longer))
 
         inside : (k : ℕ) → k < length before → k < length (take (suc k) (before ++ (e ∷ rest)))
@@ -108,7 +108,7 @@ module _ (lengths : Lengths) where
   -- faultless events, whatever items follow, are refused as they are by themselves, or the judging goes on after them
   pub data Through (es : List Event) (tail : List Item) : Answer → Type 0 where
     goes-on : Clean es → Through es tail (judged lengths es tail)
-    stops : {j p : ℕ} → Named es j p → Through es tail (answer.Clash j p)
+    stops : {j p : ℕ} → ClashingPair es j p → Through es tail (answer.Clash j p)
 
   through : (rest before : List Event) (tail : List Item) → Faultless lengths rest → Passed before
       → Through (before ++ rest) tail (judged lengths before (map Decoded rest ++ tail))
@@ -148,13 +148,13 @@ within-limits lengths items w = rw (le-leb (length items) eventLimit (w .events)
 
 -- ---- two judgements are one
 module _ (es : List Event) where
-  pub named-clash : {j p : ℕ} → Named es j p → ¬ Clean es
+  pub named-clash : {j p : ℕ} → ClashingPair es j p → ¬ Clean es
   named-clash {j} {p} n c = c .no-clash p j (clash-up-to es p j (n .earlier) (n .below) .1 (n .clash))
 
-  same-event : {j p k q : ℕ} → Named es j p → Named es k q → ¬ (j < k)
+  same-event : {j p k q : ℕ} → ClashingPair es j p → ClashingPair es k q → ¬ (j < k)
   same-event {j} {p} n m l = m .first j p l (n .earlier) (n .clash)
 
-  same-partner : {j p q : ℕ} → Named es j p → Named es j q → ¬ (p < q)
+  same-partner : {j p q : ℕ} → ClashingPair es j p → ClashingPair es j q → ¬ (p < q)
   same-partner {j} {p} n m l = m .lowest p l (n .clash)
 
   pub one-judgement : {a b : Answer} → Judgement es a → Judgement es b → a ≡ b
@@ -164,8 +164,8 @@ module _ (es : List Event) where
   one-judgement (refused {j = j} {partner = p} n) (refused {j = k} {partner = q} m) =
       joined (omega (arith, same-event n m, same-event m n)) n m
     where
-      joined : j ≡ k → Named es j p → Named es k q → answer.Clash j p ≡ answer.Clash k q
+      joined : j ≡ k → ClashingPair es j p → ClashingPair es k q → answer.Clash j p ≡ answer.Clash k q
       joined e n′ m′ =
-          let r : Named es k p = rw e at n′ in
+          let r : ClashingPair es k p = rw e at n′ in
           let f : p ≡ q = omega (arith, same-partner r m′, same-partner m′ r) in
           rw (e, f)

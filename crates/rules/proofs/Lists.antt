@@ -22,7 +22,7 @@ use Rattle.rules.specs.Faults.{Lengths, faultOf}
 use Rattle.rules.specs.Orders.{Action, actionsOf, PermittedOrder}
 use Rattle.rules.specs.Clashes.{Clean}
 use Rattle.rules.specs.Answers.{answerOf}
-use Rattle.rules.specs.Right.{WithinLimits, WellFormed, Named}
+use Rattle.rules.specs.Right.{WithinLimits, WellFormed, ClashingPair}
 use Rattle.rules.specs.Outcomes.{given, outcome}
 use Rattle.rules.specs.Waited.{Waited}
 use Rattle.rules.specs.Theorems.{answerTo, codeOf, IsAccepted, IsRefusedAtEvent, Exact, GiveTheSame}
@@ -44,7 +44,7 @@ module _ (lengths : Lengths) where
   accepted-clean′ es (passes c) e = c
   accepted-clean′ es (refused n) e = absurd (omega arith)
 
-  refused-named : (es : List Event) {a : Answer} (j p : ℕ) → Judgement es a → a ≡ answer.Clash j p → Named es j p
+  refused-named : (es : List Event) {a : Answer} (j p : ℕ) → Judgement es a → a ≡ answer.Clash j p → ClashingPair es j p
   refused-named es j p (passes c) e = let z : _≡_ {A = ℕ} 1 10 = ap codeOf e in absurd (omega arith)
   refused-named es j p (refused {j = k} {partner = q} n) e =
       let f : k ≡ j = cc in
@@ -52,7 +52,7 @@ module _ (lengths : Lengths) where
       rw (← f, ← g) n
 
   by-judgement : (es : List Event) {a : Answer} → Judgement es a
-      → Clean es ⊎ ((event : ℕ) × (partner : ℕ) × Named es event partner)
+      → Clean es ⊎ ((event : ℕ) × (partner : ℕ) × ClashingPair es event partner)
   by-judgement es (passes c) = inl c
   by-judgement es (refused {j = j} {partner = p} n) = inr (j, p, n)
 
@@ -75,7 +75,7 @@ module _ (lengths : Lengths) where
     };
   }
 
-  accepted-clean : (es : List Event) → IsAccepted (answerTo lengths es) → Clean es
+  pub accepted-clean : (es : List Event) → IsAccepted (answerTo lengths es) → Clean es
   accepted-clean es h = accepted-clean′ es (judgement es (accepted-well-formed lengths es h)) h
 
   clean-accepted : (es : List Event) → WellFormed lengths es → Clean es → IsAccepted (answerTo lengths es)

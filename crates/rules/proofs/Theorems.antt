@@ -1,11 +1,11 @@
 -- The theorems of specs/Theorems.antt.
 -- Assumes nothing.
-use mathlib.Core.Path.{sym}
+use mathlib.Core.Path.{sym, _∙_}
 use mathlib.Core.List.{_∷_}
 use lib.ListN.{length}
 use Rattle.answer.proofs.Given.{fits-given}
 use Rattle.rules.specs.Answers.{answerOf, lengthsIn, answerOfFile}
-use Rattle.rules.specs.Theorems.{SomeOrder, EitherWayWhileOpen, ClashUpTo, RangeByBytes, RightAnswer, RightAnswerOfFile, GivenAnswer, Exactly, FirstFault, PeakIsLargest, SameBytes, MoreWaiting, MoreWaitingInFiles, MoreRecording, MoreRecordingInFiles}
+use Rattle.rules.specs.Theorems.{SomeOrder, EitherWayWhileOpen, ClashUpTo, RangeByBytes, RightAnswer, OneRightAnswer, RightAnswerOfFile, GivenAnswer, Exactly, AcceptedFile, FirstFault, PeakIsLargest, SameBytes, SameBytesInFiles, MoreWaiting, MoreWaitingInFiles, MoreRecording, MoreRecordingInFiles}
 use Rattle.rules.proofs.Orders.{has-order}
 use Rattle.rules.proofs.Clashes.{moments-free}
 use Rattle.rules.proofs.Prefix.{clash-up-to}
@@ -14,7 +14,7 @@ use Rattle.rules.proofs.Range.{in-range-means}
 use Rattle.rules.proofs.Accepted.{refused-more}
 use Rattle.rules.proofs.Right.{answer-right, right-is-answer}
 use Rattle.rules.proofs.Lists.{exact, shorter, fault-after, same-bytes, still-accepted, still-the-same, still-refused}
-use Rattle.rules.proofs.Files.{answer-refused, answer-recorded, list-fits, file-fits, still-accepted-file, still-the-same-file, still-refused-file}
+use Rattle.rules.proofs.Files.{answer-refused, answer-recorded, list-fits, file-fits, accepted-file, same-bytes-file, still-accepted-file, still-the-same-file, still-refused-file}
 
 pub someOrder : SomeOrder
 unfolding SomeOrder
@@ -36,6 +36,10 @@ pub rightAnswer : RightAnswer
 unfolding RightAnswer
 rightAnswer lengths items a = (λ r. sym (right-is-answer lengths r), λ e. rw e (answer-right lengths items))
 
+pub oneRightAnswer : OneRightAnswer
+unfolding OneRightAnswer
+oneRightAnswer lengths items a b r s = sym (right-is-answer lengths r) ∙ right-is-answer lengths s
+
 pub rightAnswerOfFile : RightAnswerOfFile
 unfolding RightAnswerOfFile
 rightAnswerOfFile f = (
@@ -54,6 +58,10 @@ pub exactly : Exactly
 unfolding Exactly
 exactly lengths es ok = (exact lengths es ok, λ k. exact lengths _ (shorter lengths es k ok))
 
+pub acceptedFile : AcceptedFile
+unfolding AcceptedFile
+acceptedFile = accepted-file
+
 pub firstFault : FirstFault
 unfolding FirstFault
 firstFault lengths before bad more fault w q = (
@@ -68,6 +76,10 @@ peakIsLargest es = (λ k l. peak-largest es (length es) k l, peak-reached es (le
 pub sameBytes : SameBytes
 unfolding SameBytes
 sameBytes = same-bytes
+
+pub sameBytesInFiles : SameBytesInFiles
+unfolding SameBytesInFiles
+sameBytesInFiles = same-bytes-file
 
 pub moreWaiting : MoreWaiting
 unfolding MoreWaiting

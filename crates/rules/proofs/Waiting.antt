@@ -18,7 +18,7 @@ use Rattle.effect.specs.Access.{Access}
 use Rattle.rules.specs.Events.{effectOf, accesses, eventAt}
 use Rattle.rules.specs.Faults.{Lengths, aligned, inRange, faultless}
 use Rattle.rules.specs.Closing.{Chain, NonBulk, Bulk, Role, operation, wait-all, wait, role, closedBy, isOperation}
-use Rattle.rules.specs.Clashes.{Clash, Clean}
+use Rattle.rules.specs.Clashes.{EventsClash, Clean}
 use Rattle.rules.specs.Outcomes.{loadOf, loadsOf}
 use Rattle.rules.specs.Waited.{MayAdd, Lowered, same, Waited, done, keep, add}
 use Rattle.rules.specs.Waited as waited
@@ -197,7 +197,7 @@ module _ {es es′ : List Event} (r : Waited es es′) where
       (λ c. true≢false (sym (closed-kept i w (omega arith) c) ∙ free (place r w) (place-le r w j le)))
 
   -- a clash of the second list is one of the first
-  clash-back : (i j : ℕ) → i < j → i < length es → j < length es → Clash es′ (place r i) (place r j) → Clash es i j
+  clash-back : (i j : ℕ) → i < j → i < length es → j < length es → EventsClash es′ (place r i) (place r j) → EventsClash es i j
   clash-back i j lt li lj c = record {
     x = c .x;
     y = c .y;
@@ -230,11 +230,11 @@ module _ {es es′ : List Event} (r : Waited es es′) where
         (come-from r i (c .clash .first-made .below));
   }
     where
-      between : {i j : ℕ} → Placed r i → Placed r j → ¬ Clash es′ i j
+      between : {i j : ℕ} → Placed r i → Placed r j → ¬ EventsClash es′ i j
       between {i} {j} p q c =
           let a = p .from in
           let b = q .from in
-          let d : Clash es′ (place r a) (place r b) = rw (p .at, q .at) c in
+          let d : EventsClash es′ (place r a) (place r b) = rw (p .at, q .at) c in
           let ne : a ≢ b = λ e. clash-events es′ d (ap (place r) e) in
           elim (decLt a b) [
             | yes l ↦ clean .no-clash a b (clash-back a b l (p .below) (q .below) d)

@@ -97,7 +97,7 @@ closedIn chain es w = closes (role chain (eventAt es w)) (groups chain es w)
 abbrev pub isIn : ℕ → List ℕ → Bool
 isIn i js = anyIn (eqb i) js
 
--- Event w closes the operation of event i.
+-- Event w closes the operation of event i. (Groups stay, so a later wait closes again what an earlier one has closed.)
 unfoldable pub closedBy : List Event → ℕ → ℕ → Bool
 closedBy es i w = isIn i (closedIn NonBulk es w) || isIn i (closedIn Bulk es w)
 

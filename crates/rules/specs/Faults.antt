@@ -44,7 +44,8 @@ aligned (BulkReduction dst src size operation element) = multipleOf 16 (dst .0) 
 aligned BulkCommit = true
 aligned (BulkWait n) = true
 
--- Range: every byte read or written lies inside its memory; where no byte is, there is no check. Addresses never wrap.
+-- Range: every byte read or written lies inside its memory; a source of which no byte is read has no range check. Addresses
+-- never wrap.
 abbrev pub inside : Lengths → Access → Bool
 inside lengths x = isZero (x .size) || leb (x .start + x .size) (lengthOf lengths (x .space))
 

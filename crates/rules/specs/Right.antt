@@ -13,7 +13,7 @@ use Rattle.decoder.specs.declared.Item.{Item}
 use Rattle.decoder.specs.declared.Item.the-variants.{Decoded}
 use Rattle.rules.specs.Events.{eventAt}
 use Rattle.rules.specs.Faults.{Lengths, faultless, faultOf}
-use Rattle.rules.specs.Clashes.{Clash, Clean}
+use Rattle.rules.specs.Clashes.{EventsClash, Clean}
 use Rattle.rules.specs.Peak.{peak}
 use Rattle.rules.specs.Answers.{areMemoryLengths}
 
@@ -33,12 +33,12 @@ pub record WellFormed (lengths : Lengths) (es : List Event) : Type 0 where
 
 -- Code 10 names the first event that clashes with an earlier one, over the list up to that event; partner is the lowest
 -- such earlier event.
-pub record Named (es : List Event) (event partner : ℕ) : Type 0 where
+pub record ClashingPair (es : List Event) (event partner : ℕ) : Type 0 where
   pub below : event < length es
   pub earlier : partner < event
-  pub clash : Clash (take (suc event) es) partner event
-  pub lowest : (i : ℕ) → i < partner → ¬ Clash (take (suc event) es) i event
-  pub first : (k i : ℕ) → k < event → i < k → ¬ Clash (take (suc k) es) i k
+  pub clash : EventsClash (take (suc event) es) partner event
+  pub lowest : (i : ℕ) → i < partner → ¬ EventsClash (take (suc event) es) i event
+  pub first : (k i : ℕ) → k < event → i < k → ¬ EventsClash (take (suc k) es) i k
 
 pub data Right (lengths : Lengths) : List Item → Answer → Type 0 where
   -- 3 and 4.
@@ -53,7 +53,7 @@ pub data Right (lengths : Lengths) : List Item → Answer → Type 0 where
   -- 10: a clash among events that get no other refusal.
   clash : (es : List Event) (more : List Item) {event partner : ℕ}
       → WithinLimits lengths (length (map Decoded es ++ more))
-      → Faultless lengths es → Named es event partner
+      → Faultless lengths es → ClashingPair es event partner
       → Right lengths (map Decoded es ++ more) (answer.Clash event partner)
   -- 1.
   accepted : (es : List Event) → WellFormed lengths es → Clean es

@@ -25,10 +25,10 @@ use Rattle.rules.specs.Events.{accesses, eventAt}
 use Rattle.rules.specs.Faults.{Lengths, lengthOf, inRange, faultOf}
 use Rattle.rules.specs.Closing.{isOperation, closedBy}
 use Rattle.rules.specs.Orders.{Action, actionsOf, PermittedOrder, CanComeEitherWay, happensAt}
-use Rattle.rules.specs.Clashes.{Clash, Clean}
+use Rattle.rules.specs.Clashes.{EventsClash, Clean}
 use Rattle.rules.specs.Peak.{openAfter, peak}
 use Rattle.rules.specs.Answers.{answerOf, lengthsIn, answerOfFile}
-use Rattle.rules.specs.Right.{WithinLimits, WellFormed, Named, Right}
+use Rattle.rules.specs.Right.{WithinLimits, WellFormed, ClashingPair, Right}
 use Rattle.rules.specs.Outcomes.{outcome}
 use Rattle.rules.specs.Waited.{Waited, Extended}
 
@@ -62,7 +62,7 @@ unfoldable pub SomeOrder : Type 0
 SomeOrder = (es : List Event) → PermittedOrder es (actionsOf es)
 
 -- An access of an event and one of a later event can come either way exactly when the earlier event starts an operation
--- and no wait up to the later event closes it.
+-- and no event up to the later one, that one included, closes it.
 unfoldable pub EitherWayWhileOpen : Type 0
 EitherWayWhileOpen =
     (es : List Event) (i j : ℕ) (x y : Access) → i < j → j < length es
@@ -72,7 +72,7 @@ EitherWayWhileOpen =
 -- A clash with an earlier event over the whole list is a clash over the list up to the later event.
 unfoldable pub ClashUpTo : Type 0
 ClashUpTo =
-    (es : List Event) (i j : ℕ) → i < j → j < length es → Clash es i j ↔ Clash (take (suc j) es) i j
+    (es : List Event) (i j : ℕ) → i < j → j < length es → EventsClash es i j ↔ EventsClash (take (suc j) es) i j
 
 -- The test of the range says that every byte read or written lies inside its memory.
 unfoldable pub RangeByBytes : Type 0
@@ -86,6 +86,11 @@ RangeByBytes =
 -- One answer is right for a list of items, and `answerOf` gives it.
 unfoldable pub RightAnswer : Type 0
 RightAnswer = (lengths : Lengths) (items : List Item) (a : Answer) → Right lengths items a ↔ (a ≡ answerOf lengths items)
+
+-- Two answers that are right are equal.
+unfoldable pub OneRightAnswer : Type 0
+OneRightAnswer =
+    (lengths : Lengths) (items : List Item) (a b : Answer) → Right lengths items a → Right lengths items b → a ≡ b
 
 -- A file gets the refusal of its shape, or the right answer for its items under its memory lengths.
 unfoldable pub RightAnswerOfFile : Type 0
@@ -105,14 +110,20 @@ GivenAnswer =
 -- no third way.
 pub record Exact (lengths : Lengths) (es : List Event) : Type 0 where
   pub accepted : (answerTo lengths es ≡ answer.Accepted (length es) (peak es (length es))) ↔ Clean es
-  pub refused : (event partner : ℕ) → (answerTo lengths es ≡ answer.Clash event partner) ↔ Named es event partner
-  pub no-third : Clean es ⊎ ((event : ℕ) × (partner : ℕ) × Named es event partner)
+  pub refused : (event partner : ℕ) → (answerTo lengths es ≡ answer.Clash event partner) ↔ ClashingPair es event partner
+  pub no-third : Clean es ⊎ ((event : ℕ) × (partner : ℕ) × ClashingPair es event partner)
 
 -- So it is for every well-formed list, and for each shorter list.
 unfoldable pub Exactly : Type 0
 Exactly =
     (lengths : Lengths) (es : List Event) → WellFormed lengths es
     → Exact lengths es × ((k : ℕ) → Exact lengths (take k es))
+
+-- An accepted file holds events alone, which are well-formed and clean.
+unfoldable pub AcceptedFile : Type 0
+AcceptedFile =
+    (f : List ℕ) → IsAccepted (answerOfFile f)
+    → (lengths : Lengths) × (es : List Event) × Records f lengths (map Decoded es) × WellFormed lengths es × Clean es
 
 -- With a fault (5 to 9) the answer is that of the items before it if they are refused, else the fault, whatever follows.
 unfoldable pub FirstFault : Type 0
@@ -136,6 +147,14 @@ PeakIsLargest =
 unfoldable pub SameBytes : Type 0
 SameBytes =
     (lengths : Lengths) (es : List Event) → IsAccepted (answerTo lengths es)
+    → (o₁ o₂ : List Action) → PermittedOrder es o₁ → PermittedOrder es o₂
+    → (global shared : List ℕ) → outcome es global shared o₁ ≡ outcome es global shared o₂
+
+-- The same of the events that an accepted file holds.
+unfoldable pub SameBytesInFiles : Type 0
+SameBytesInFiles =
+    (f : List ℕ) (lengths : Lengths) (es : List Event)
+    → Records f lengths (map Decoded es) → IsAccepted (answerOfFile f)
     → (o₁ o₂ : List Action) → PermittedOrder es o₁ → PermittedOrder es o₂
     → (global shared : List ℕ) → outcome es global shared o₁ ≡ outcome es global shared o₂
 

@@ -24,7 +24,7 @@ pub data Waited : List Event → List Event → Type 0 where
   keep : {e e′ : Event} {es es′ : List Event} → Lowered e e′ → Waited es es′ → Waited (e ∷ es) (e′ ∷ es′)
   add : {e : Event} {es es′ : List Event} → MayAdd e → Waited es es′ → Waited es (e ∷ es′)
 
--- The second file has the first one's memory lengths and events, and then more events.
+-- The second file has the first one's memory lengths and events, and after them any further events.
 pub record Extended (f f′ : List ℕ) : Type 0 where
   pub global : headerIn f′ .global ≡ headerIn f .global
   pub shared : headerIn f′ .shared ≡ headerIn f .shared
