@@ -1,8 +1,9 @@
--- The theorems of specs/Theorems.antt.
+-- The theorems of specs/Theorems.antt, and the tables of specs/Examples.antt.
 -- Assumes nothing.
 use mathlib.Core.Path.{refl}
 use Rattle.little_endian.specs.Number.{numberAt, bytesOf}
-use Rattle.effect.specs.Theorems.{Commutes, ComparesAsTwosComplement, elements, DocumentElements}
+use Rattle.effect.specs.Theorems.{Commutes, ComparesAsTwosComplement}
+use Rattle.effect.specs.Examples.{sums, DocumentSums, effects, EffectsDone}
 use Rattle.effect.proofs.Commute.{commute}
 use Rattle.effect.proofs.TwosComplement.{rank-orders}
 
@@ -14,6 +15,10 @@ pub comparesAsTwosComplement : ComparesAsTwosComplement
 unfolding ComparesAsTwosComplement
 comparesAsTwosComplement = rank-orders
 
-pub documentElements : DocumentElements
-unfolding DocumentElements elements numberAt bytesOf
-documentElements = refl
+pub documentSums : DocumentSums
+unfolding DocumentSums sums numberAt bytesOf
+documentSums = refl
+
+pub effectsDone : EffectsDone
+unfolding EffectsDone effects numberAt bytesOf
+effectsDone = refl

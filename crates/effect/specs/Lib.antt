@@ -4,3 +4,4 @@ pub mod Access
 pub mod Element
 pub mod Effect
 pub mod Theorems
+pub mod Examples

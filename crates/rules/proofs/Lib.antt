@@ -18,4 +18,5 @@ pub mod Waiting
 pub mod Lists
 pub mod Files
 pub mod Traces
+pub mod Examples
 pub mod Theorems

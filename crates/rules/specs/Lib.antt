@@ -12,4 +12,6 @@ pub mod Right
 pub mod Outcomes
 pub mod Waited
 pub mod Theorems
+pub mod Samples
 pub mod Traces
+pub mod Examples
