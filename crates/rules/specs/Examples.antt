@@ -17,7 +17,7 @@ use Rattle.rules.specs.Faults.{Lengths}
 use Rattle.rules.specs.Orders.{Action, turn, act, actionsOf, PermittedOrder}
 use Rattle.rules.specs.Answers.{answerOf}
 use Rattle.rules.specs.Outcomes.{Outcome, outcome}
-use Rattle.rules.specs.Samples.{lengths, copyBy, copyOf, shortCopy, loadShared, loadGlobal, storeGlobal, storeShared, bulkOf, reduction}
+use Rattle.rules.specs.Samples.{lengths, copyBy, copyOf, shortCopy, loadShared, loadGlobal, storeGlobal, storeShared, storeTwo, bulkOf, reduction, addAt}
 
 -- A list of items under two memory lengths, and its answer.
 pub record Example : Type 0 where
@@ -88,11 +88,26 @@ examples =
     ∷ events (Accepted 2 1) (copyBy SourceIgnored 4 0 0 ∷ storeGlobal 0 ∷ [])
     ∷ over (Accepted 1 1) (lengths 3 4) (shortCopy ∷ [])
     ∷ over (OutOfRange 0) (lengths 3 4) (copyOf 4 0 ∷ [])
-    -- .. it is still aligned.
+    -- .. it is still aligned: copies to cp-size at both ends, ..
     ∷ events (Misaligned 0) (copyBy SourceIgnored 4 0 2 ∷ [])
     ∷ events (Misaligned 0) (copyBy Plain 4 2 0 ∷ [])
+    -- .. bulk to 16 at both ends, ..
     ∷ events (Misaligned 0) (bulkOf 8 0 ∷ [])
     ∷ events (Misaligned 0) (bulkOf 0 8 ∷ [])
+    ∷ events (Misaligned 0) (addAt 8 0 ∷ [])
+    ∷ events (Misaligned 0) (addAt 0 8 ∷ [])
+    -- .. thread accesses to their size.
+    ∷ events (Misaligned 0) (loadShared 2 1 ∷ [])
+    ∷ events (Misaligned 0) (storeTwo 1 ∷ [])
+    ∷ events (Accepted 2 0) (loadShared 2 2 ∷ storeTwo 2 ∷ [])
+    -- Every byte read or written lies inside its memory.
+    ∷ events (Accepted 2 0) (loadShared 16 0 ∷ storeTwo 14 ∷ [])
+    ∷ events (OutOfRange 0) (storeTwo 16 ∷ [])
+    ∷ events (OutOfRange 0) (copyBy Plain 4 16 0 ∷ [])
+    ∷ events (OutOfRange 0) (bulkOf 16 0 ∷ [])
+    ∷ events (OutOfRange 0) (bulkOf 0 16 ∷ [])
+    ∷ events (OutOfRange 0) (addAt 16 0 ∷ [])
+    ∷ events (OutOfRange 0) (addAt 0 16 ∷ [])
     -- Each memory has its own length.
     ∷ over (Accepted 1 0) (lengths 16 8) (loadGlobal 8 8 ∷ [])
     ∷ over (OutOfRange 0) (lengths 16 8) (loadShared 8 8 ∷ [])
