@@ -96,8 +96,8 @@ differ-swap a b c ha hb hc =
     differ-sum (differ a b) c (differ-lt a b ha hb) hc ∙ ap (λ n. (n + c) % 2) (differ-sum a b ha hb)
     ∙ mod-add-mod (a + b) 2 c
     ∙ ap (λ n. n % 2) (add-right-comm a b c)
-    ∙ sym (differ-sum (differ a c) b (differ-lt a c ha hc) hb ∙ ap (λ n. (n + b) % 2) (differ-sum a c ha hc) ∙
-    mod-add-mod (a + c) 2 b)
+    ∙ sym (differ-sum (differ a c) b (differ-lt a c ha hc) hb ∙ ap (λ n. (n + b) % 2) (differ-sum a c ha hc)
+    ∙ mod-add-mod (a + c) 2 b)
 
 and-swap : (d x y : ℕ) → bitAnd (bitAnd d x) y ≡ bitAnd (bitAnd d y) x
 and-swap = swap-bitwise bitAnd min and-step (λ a b ha hb. omega arith) (λ a b c ha hb hc. omega arith)

@@ -1,4 +1,4 @@
--- An order with the actions that pass a test delayed: first those that fail it, then those that pass, in the order they had.
+-- An order with the actions that pass a test delayed: first those that fail it, then those that pass, as they stood.
 -- Assumes nothing.
 use mathlib.Core.Path.{_≡_, refl, sym, _∙_, ap}
 use mathlib.Core.Logic.{_≢_, _⊎_, inl, inr, ⊎-elim}

@@ -24,7 +24,8 @@ use Rattle.rules.specs.Theorems.{IsAccepted}
 
 -- the checks 7 to 9 of event j, each as a test
 abbrev pub alone : ℕ → Bool → Bool → Bool → List (Option Answer)
-alone j f a r = unless f (answer.FieldNotAllowed j) ∷ unless a (answer.Misaligned j) ∷ unless r (answer.OutOfRange j) ∷ []
+alone j f a r =
+    unless f (answer.FieldNotAllowed j) ∷ unless a (answer.Misaligned j) ∷ unless r (answer.OutOfRange j) ∷ []
 
 -- nothing applies just if all pass
 by-tests : (j : ℕ) (f a r : Bool) (o : Option ℕ) (next : Answer)
@@ -88,7 +89,8 @@ module _ (lengths : Lengths) where
       record { limits = rw length-map at w; faultless = record { each = accepted-faultless es [] j } }
 
   -- ---- a fault
-  fault-first : (j : ℕ) (f a r : Bool) (o : Option ℕ) {fault : Answer} (next : Answer) → firstOf (alone j f a r) ≡ some fault
+  fault-first : (j : ℕ) (f a r : Bool) (o : Option ℕ) {fault : Answer} (next : Answer)
+      → firstOf (alone j f a r) ≡ some fault
       → orGoOn (firstOf (alone j f a r ++ clashWith j o ∷ [])) next ≡ fault
   fault-first j true true true o next h = let z : _≡_ {A = ℕ} 0 1 = cc in absurd (omega arith)
   fault-first j true true false o next h = cc

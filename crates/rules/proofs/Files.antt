@@ -109,7 +109,8 @@ shaped-held : (f : List ℕ) → fileOf eventLimit f ≡ recorded (headerIn f) (
     → IsAccepted (answerOf (lengthsIn (headerIn f)) (itemsIn f)) → Held f
 shaped-held f e h =
     let v = accepted-items (lengthsIn (headerIn f)) (itemsIn f) h in
-    let n : eventsIn f ≡ length (map Decoded (v .events)) = sym (length-first (itemIn f) (eventsIn f)) ∙ ap length (v .are) in
+    let n : eventsIn f ≡ length (map Decoded (v .events)) = sym (length-first (itemIn f) (eventsIn f))
+    ∙ ap length (v .are) in
     record {
       lengths = lengthsIn (headerIn f);
       events = v .events;
@@ -132,8 +133,14 @@ pub accepted-file : (f : List ℕ) → IsAccepted (answerOfFile f)
     → (lengths : Lengths) × (es : List Event) × Records f lengths (map Decoded es) × WellFormed lengths es × Clean es
 accepted-file f h =
     let v = held f h in
-    let ok = v .passes in
-    (v .lengths, v .events, v .records, accepted-well-formed (v .lengths) (v .events) ok, accepted-clean (v .lengths) (v .events) ok)
+    let ok = v .passes in (
+      v .lengths,
+      v .events,
+      v .records,
+      accepted-well-formed (v .lengths) (v .events) ok,
+      accepted-clean (v .lengths)
+          (v .events) ok,
+    )
 
 -- ---- more waiting
 few-recorded : (f : List ℕ) (header : Header) (items : List Item) → fileOf eventLimit f ≡ recorded header items
@@ -164,7 +171,8 @@ module _ (f f′ : List ℕ) (lengths : Lengths) (es es′ : List Event)
 
     pub still-accepted-file : IsAccepted (answerOfFile f) → IsAccepted (answerOfFile f′)
     still-accepted-file h =
-        rw (answer-recorded f′ _ (map Decoded es′) holds′) (still-accepted lengths r few′ (accepted-list f lengths es holds h))
+        rw (answer-recorded f′ _ (map Decoded es′) holds′)
+        (still-accepted lengths r few′ (accepted-list f lengths es holds h))
 
     pub still-the-same-file : IsAccepted (answerOfFile f) → GiveTheSame es es′
     still-the-same-file h = still-the-same lengths r few′ (accepted-list f lengths es holds h)

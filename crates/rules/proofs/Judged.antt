@@ -64,8 +64,8 @@ module _ (before : List Event) (e : Event) where
   passed-more : Passed before → ((i : ℕ) → i < length before → clashes (before ++ (e ∷ [])) i (length before) ≡ false)
       → Passed (before ++ (e ∷ []))
   passed-more passed last k i l m = ⊎-elim
-      (λ h. clashes-same (before ++ (e ∷ [])) before i k m (λ w q. agree-append before (e ∷ []) w (omega arith)) ∙
-      passed k i h m)
+      (λ h. clashes-same (before ++ (e ∷ [])) before i k m (λ w q. agree-append before (e ∷ []) w (omega arith))
+      ∙ passed k i h m)
       (λ q. rw q (last i (omega arith)))
       (below-or-last (rw longer at l))
 
@@ -80,8 +80,8 @@ module _ (before : List Event) (e : Event) where
       lowest =
           λ i l. rw up-to-last (λ c. true≢false (sym (tells i (omega (arith, low .below)) .1 c) ∙ low .others i l));
       first =
-          λ k i l m c. true≢false (sym (clash-tells (take (suc k) (before ++ (e ∷ rest))) i k m (inside k l) .1 c) ∙
-          same k i l m ∙ passed k i l m);
+          λ k i l m c. true≢false (sym (clash-tells (take (suc k) (before ++ (e ∷ rest))) i k m (inside k l) .1 c)
+          ∙ same k i l m ∙ passed k i l m);
     }
       where
         tells : (i : ℕ) → i < length before → (clashes (before ++ (e ∷ [])) i (length before) ≡ true)

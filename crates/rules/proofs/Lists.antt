@@ -40,9 +40,9 @@ module _ (lengths : Lengths) where
       (judged-right lengths es (ok .faultless))
 
   -- ---- exactly
-  accepted-clean′ : (es : List Event) {a : Answer} → Judgement es a → IsAccepted a → Clean es
-  accepted-clean′ es (passes c) e = c
-  accepted-clean′ es (refused n) e = absurd (omega arith)
+  judged-clean : (es : List Event) {a : Answer} → Judgement es a → IsAccepted a → Clean es
+  judged-clean es (passes c) e = c
+  judged-clean es (refused n) e = absurd (omega arith)
 
   refused-named : (es : List Event) {a : Answer} (j p : ℕ) → Judgement es a → a ≡ answer.Clash j p → ClashingPair es j p
   refused-named es j p (passes c) e = let z : _≡_ {A = ℕ} 1 10 = ap codeOf e in absurd (omega arith)
@@ -60,7 +60,7 @@ module _ (lengths : Lengths) where
   exact es ok =
       let found = judgement es ok in
       record {
-        accepted = (λ e. accepted-clean′ es found (ap codeOf e), λ c. one-judgement es found (passes c));
+        accepted = (λ e. judged-clean es found (ap codeOf e), λ c. one-judgement es found (passes c));
         refused = λ j p. (refused-named es j p found, λ n. one-judgement es found (refused n));
         no-third = by-judgement es found;
       }
@@ -76,7 +76,7 @@ module _ (lengths : Lengths) where
   }
 
   pub accepted-clean : (es : List Event) → IsAccepted (answerTo lengths es) → Clean es
-  accepted-clean es h = accepted-clean′ es (judgement es (accepted-well-formed lengths es h)) h
+  accepted-clean es h = judged-clean es (judgement es (accepted-well-formed lengths es h)) h
 
   clean-accepted : (es : List Event) → WellFormed lengths es → Clean es → IsAccepted (answerTo lengths es)
   clean-accepted es ok c = ap codeOf (exact es ok .accepted .1 c)

@@ -141,7 +141,8 @@ module _ (es : List Event) where
   -- a turn never comes either way with another action of its event or of a later one
   pub turn-fixed : (i : ℕ) (x : Action) → x ∈ actionsOf es → i ≤ event x → turn i ≢ x → ¬ CanComeEitherWay es (turn i) x
   turn-fixed i x m le ne e =
-      let free = either-way action-discrete precedes-closure (actionsOf es) has-order (turn i) x (turn-in m i le) m ne in
+      let free = either-way action-discrete precedes-closure (actionsOf es) has-order (turn i) x (turn-in m i le) m ne
+      in
       true≢false (sym (turn-precedes i x (turn-rank i x le ne)) ∙ free .0 e .0)
 
   -- both are actions of the list, and of different events

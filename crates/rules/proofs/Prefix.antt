@@ -55,7 +55,8 @@ pub agree-append : (es more : List Event) → Agree (es ++ more) es (length es)
 agree-append es more k l = List·getD-append es more Commit k l
 
 -- a clash with an earlier event over the whole list is one over the list up to the later event
-pub clash-up-to : (es : List Event) (i j : ℕ) → i < j → j < length es → EventsClash es i j ↔ EventsClash (take (suc j) es) i j
+pub clash-up-to : (es : List Event) (i j : ℕ) → i < j → j < length es → EventsClash es i j
+    ↔ EventsClash (take (suc j) es) i j
 clash-up-to es i j lt below =
     let same : clashes (take (suc j) es) i j ≡ clashes es i j = clashes-same (take (suc j) es) es i j lt
     (agree-take (suc j) es) in

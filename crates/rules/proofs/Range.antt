@@ -41,8 +41,9 @@ module _ (lengths : Lengths) (x : Access) where
   -- an access that has a byte has a last one
   last-inside : ¬ (x .size ≡ 0) → Inside lengths x → fits ≡ true
   last-inside ne all =
-      let has : Has x (x .space) (x .start + (x .size - 1)) = record { there = refl; from = omega arith; below = omega arith } in
-      last-fits ne (all (x .space) (x .start + (x .size - 1)) has)
+      let last = x .start + (x .size - 1) in
+      let has : Has x (x .space) last = record { there = refl; from = omega arith; below = omega arith } in
+      last-fits ne (all (x .space) last has)
 
   inside-means : (inside lengths x ≡ true) ↔ Inside lengths x
   inside-means = (

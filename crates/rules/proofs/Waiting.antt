@@ -197,7 +197,8 @@ module _ {es es′ : List Event} (r : Waited es es′) where
       (λ c. true≢false (sym (closed-kept i w (omega arith) c) ∙ free (place r w) (place-le r w j le)))
 
   -- a clash of the second list is one of the first
-  clash-back : (i j : ℕ) → i < j → i < length es → j < length es → EventsClash es′ (place r i) (place r j) → EventsClash es i j
+  clash-back : (i j : ℕ) → i < j → i < length es → j < length es → EventsClash es′ (place r i) (place r j)
+      → EventsClash es i j
   clash-back i j lt li lj c = record {
     x = c .x;
     y = c .y;
