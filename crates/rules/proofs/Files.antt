@@ -109,8 +109,7 @@ shaped-held : (f : List ℕ) → fileOf eventLimit f ≡ recorded (headerIn f) (
     → IsAccepted (answerOf (lengthsIn (headerIn f)) (itemsIn f)) → Held f
 shaped-held f e h =
     let v = accepted-items (lengthsIn (headerIn f)) (itemsIn f) h in
-    let n : eventsIn f ≡ length (map Decoded (v .events)) = sym (length-first (itemIn f) (eventsIn f))
-    ∙ ap length (v .are) in
+    let n = sym (length-first (itemIn f) (eventsIn f)) ∙ ap length (v .are) in
     record {
       lengths = lengthsIn (headerIn f);
       events = v .events;
@@ -133,14 +132,9 @@ pub accepted-file : (f : List ℕ) → IsAccepted (answerOfFile f)
     → (lengths : Lengths) × (es : List Event) × Records f lengths (map Decoded es) × WellFormed lengths es × Clean es
 accepted-file f h =
     let v = held f h in
-    let ok = v .passes in (
-      v .lengths,
-      v .events,
-      v .records,
-      accepted-well-formed (v .lengths) (v .events) ok,
-      accepted-clean (v .lengths)
-          (v .events) ok,
-    )
+    let well-formed = accepted-well-formed (v .lengths) (v .events) (v .passes) in
+    let clean = accepted-clean (v .lengths) (v .events) (v .passes) in
+    (v .lengths, v .events, v .records, well-formed, clean)
 
 -- ---- more waiting
 few-recorded : (f : List ℕ) (header : Header) (items : List Item) → fileOf eventLimit f ≡ recorded header items
