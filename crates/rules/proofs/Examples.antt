@@ -15,7 +15,7 @@ use Rattle.rules.specs.Orders.{Action, turn, act, actionsOf, Must, in-tu
 use Rattle.rules.specs.Peak.{peak}
 use Rattle.rules.specs.Tests.{clashes}
 use Rattle.rules.specs.Answers.{judged, answerOf}
-use Rattle.rules.specs.Examples.{wrongReadings, examples, ReadRight, BothSides, runs, RunsGive, unwaited, CopyMayNotHaveLanded}
+use Rattle.rules.specs.Examples.{wrongReadings, examples, ReadRight, BothSides, workedRuns, RunsGive, unwaited, CopyMayNotHaveLanded}
 use Rattle.rules.proofs.Actions.{in-actions}
 use Rattle.rules.proofs.Orders.{has-order}
 
@@ -28,7 +28,7 @@ unfolding BothSides examples bytesOf isValue allowed aligned inRange groups clos
 bothSides = refl
 
 pub runsGive : RunsGive
-unfolding RunsGive runs bytesOf
+unfolding RunsGive workedRuns bytesOf
 runsGive = refl
 
 -- ---- the order of K2 in which the copy acts after the load

@@ -146,8 +146,8 @@ abbrev run : List Event → List ℕ → List ℕ → List ℕ → List ℕ → 
 run es g s g′ s′ read =
     record { events = es; global = g; shared = s; gives = record { global = g′; shared = s′; loads = read } }
 
-unfoldable pub runs : List Run
-runs =
+unfoldable pub workedRuns : List Run
+workedRuns =
     -- K1's events: the load has the bytes of the copy, and so has shared memory.
     run (copyOf 4 0 ∷ WaitAll ∷ loadShared 4 0 ∷ []) (1 ∷ 2 ∷ 3 ∷ 4 ∷ []) (9 ∷ 9 ∷ 9 ∷ 9 ∷ 9 ∷ [])
     (1 ∷ 2 ∷ 3 ∷ 4 ∷ []) (1 ∷ 2 ∷ 3 ∷ 4 ∷ 9 ∷ []) ((1 ∷ 2 ∷ 3 ∷ 4 ∷ []) ∷ [])
@@ -160,7 +160,8 @@ runs =
 
 unfoldable pub RunsGive : Type 0
 RunsGive =
-    map (λ r. outcome (r .events) (r .global) (r .shared) (actionsOf (r .events))) runs ≡ map (λ r. r .gives) runs
+    map (λ r. outcome (r .events) (r .global) (r .shared) (actionsOf (r .events))) workedRuns
+    ≡ map (λ r. r .gives) workedRuns
 
 -- K2.
 abbrev pub unwaited : List Event
