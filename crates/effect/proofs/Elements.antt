@@ -163,7 +163,7 @@ combined-any-order And signed w = record { below = and-lt (8 * w); swap = λ d x
 combined-any-order Or signed w = record { below = or-lt (8 * w); swap = λ d x y hd hx hy. or-swap d x y }
 combined-any-order Xor signed w = record { below = xor-lt (8 * w); swap = λ d x y hd hx hy. xor-swap d x y }
 combined-any-order Add signed w = record {
-  below = λ d x hd hx. mod-lt (d + x) (pow-pos (8 * w));
+  below = λ d x hd hx. mod-lt _ (pow-pos (8 * w));
   swap = λ d x y hd hx hy. add-swap (bound w) d x y;
 }
 combined-any-order Min signed w =
