@@ -84,12 +84,9 @@ eagerly-apart : (es : List Event) (m : State) (done : List (List ℕ)) (k : ℕ)
 eagerly-apart [] m done k h = refl
 eagerly-apart (e ∷ es) m done k h =
     let read = readBy (effectOf e) m in
+    let after = reads es (stepped 0 e m) in
     ap (eagerly (suc k) es) (step-apart (effectOf e) m done (replicate (length es) []) k h)
-    ∙ rw (
-      ← append-assoc done (read ∷ []) (replicate (length es) []),
-      ← append-assoc done (read ∷ [])
-          (reads es (stepped 0 e m)),
-    )
+    ∙ rw (← append-assoc done (read ∷ []) (replicate (length es) []), ← append-assoc done (read ∷ []) after)
     (eagerly-apart es (stepped 0 e m) (done ++ (read ∷ [])) (suc k) (length-append done (read ∷ []) ∙ omega arith))
 
 -- what a run that lets each operation act as soon as it is started gives

@@ -189,11 +189,9 @@ module _ (f f′ : List ℕ) (longer : Extended f f′) where
   more-items : (more : List Item) × (itemsIn f′ ≡ itemsIn f ++ more)
   more-items =
       let (more, e) = further (itemIn f′) (eventsIn f) (eventsIn f′ - eventsIn f) in
-      let all : eventsIn f + (eventsIn f′ - eventsIn f) ≡ eventsIn f′ = omega (arith, longer .longer) in (
-        more,
-        ap (firstItems (itemIn f′)) (sym all) ∙ e ∙ ap (λ l. l ++ more)
-            (same-first (itemIn f′) (itemIn f) (eventsIn f) same-item),
-      )
+      let all : eventsIn f + (eventsIn f′ - eventsIn f) ≡ eventsIn f′ = omega (arith, longer .longer) in
+      let same = same-first (itemIn f′) (itemIn f) (eventsIn f) same-item in
+      (more, ap (firstItems (itemIn f′)) (sym all) ∙ e ∙ ap (λ l. l ++ more) same)
 
   same-lengths : lengthsIn (headerIn f′) ≡ lengthsIn (headerIn f)
   same-lengths = rw (longer .global, longer .shared)

@@ -31,12 +31,8 @@ module _ (es es′ : List Event) where
   pub closed-same : (i w : ℕ) → Agree es es′ (suc w) → closedBy es i w ≡ closedBy es′ i w
   unfolding closedBy
   closed-same i w h =
-      rw (
-        h w (omega arith),
-        groups-same NonBulk w (λ k l. h k (omega arith)),
-        groups-same Bulk w
-            (λ k l. h k (omega arith)),
-      )
+      let before : Agree es es′ w = λ k l. h k (omega arith) in
+      rw (h w (omega arith), groups-same NonBulk w before, groups-same Bulk w before)
 
   pub open-same : (n i : ℕ) → i < n → Agree es es′ n → isOpen es n i ≡ isOpen es′ n i
   unfolding isOpen
@@ -55,12 +51,12 @@ pub agree-append : (es more : List Event) → Agree (es ++ more) es (length es)
 agree-append es more k l = List·getD-append es more Commit k l
 
 -- a clash with an earlier event over the whole list is one over the list up to the later event
-pub clash-up-to : (es : List Event) (i j : ℕ) → i < j → j < length es → EventsClash es i j
-    ↔ EventsClash (take (suc j) es) i j
+pub clash-up-to : (es : List Event) (i j : ℕ) → i < j → j < length es
+    → EventsClash es i j ↔ EventsClash (take (suc j) es) i j
 clash-up-to es i j lt below =
-    let same : clashes (take (suc j) es) i j ≡ clashes es i j = clashes-same (take (suc j) es) es i j lt
-    (agree-take (suc j) es) in
-    let inside : j < length (take (suc j) es) = simp length-take (omega arith) in (
-      λ c. clash-tells (take (suc j) es) i j lt inside .0 (same ∙ clash-tells es i j lt below .1 c),
-      λ c. clash-tells es i j lt below .0 (sym same ∙ clash-tells (take (suc j) es) i j lt inside .1 c),
+    let shorter = take (suc j) es in
+    let same : clashes shorter i j ≡ clashes es i j = clashes-same shorter es i j lt (agree-take (suc j) es) in
+    let inside : j < length shorter = simp length-take (omega arith) in (
+      λ c. clash-tells shorter i j lt inside .0 (same ∙ clash-tells es i j lt below .1 c),
+      λ c. clash-tells es i j lt below .0 (sym same ∙ clash-tells shorter i j lt inside .1 c),
     )

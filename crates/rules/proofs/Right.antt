@@ -165,15 +165,8 @@ module _ (lengths : Lengths) where
       fault-fits (length es) bad
       (omega (arith, w .events, length-append (map Decoded es) (bad ∷ more), length-map es Decoded)) q
   right-fits (clash es more {event = j} {partner = p} w fl n) =
-      rw (
-        lt-ltb j eventLimit
-            (omega (arith, w .events, n .below, length-append (map Decoded es) more, length-map es Decoded)),
-        lt-ltb p j
-            (n .earlier),
-      )
+      let listed : j < eventLimit = omega (arith, w .events, n .below, length-append (map Decoded es) more, length-map es Decoded) in
+      rw (lt-ltb j eventLimit listed, lt-ltb p j (n .earlier))
   right-fits (accepted es ok c) =
-      rw (
-        le-leb (length es) eventLimit (ok .limits .events),
-        le-leb (peak es (length es)) (length es)
-            (peak-most es (length es)),
-      )
+      let peaks = le-leb (peak es (length es)) (length es) (peak-most es (length es)) in
+      rw (le-leb (length es) eventLimit (ok .limits .events), peaks)
