@@ -57,11 +57,14 @@ module _ (es : List Event) where
   abbrev effect : Action → Effect
   effect a = effectOf (eventAt es (event a))
 
+  -- the action is that at which its event does what it does
+  abbrev IsMoment : Action → Type 0
+  IsMoment a = momentOf (isOperation (eventAt es (event a))) (event a) ≡ a
+
   -- an action does nothing, or it is the moment of its event and has its effect
   data Does (a : Action) : Type 0 where
     idle : ((s : State) → exec es a s ≡ s) → Does a
-    acts : momentOf (isOperation (eventAt es (event a))) (event a) ≡ a
-        → ((s : State) → exec es a s ≡ does (event a) (effect a) s) → Does a
+    acts : IsMoment a → ((s : State) → exec es a s ≡ does (event a) (effect a) s) → Does a
 
   what : (a : Action) → Happens a (eventAt es (event a)) → Does a
   what (act i) op = acts (rw op) (λ s. refl)
@@ -80,9 +83,7 @@ module _ (es : List Event) (aligns : (i : ℕ) → i < length es → aligned (ev
     in-second = second-of-list es free
 
     -- accesses that met would clash
-    apart : momentOf (isOperation (eventAt es (event a))) (event a) ≡ a
-        → momentOf (isOperation (eventAt es (event b))) (event b) ≡ b
-        → ¬ MayShare (effect es a) (effect es b) → Apart (effect es a) (effect es b)
+    apart : IsMoment es a → IsMoment es b → ¬ MayShare (effect es a) (effect es b) → Apart (effect es a) (effect es b)
     apart p q no-share x y l m meet = clean .no-clash (event a) (event b) (record {
       x = x;
       y = y;
@@ -95,9 +96,7 @@ module _ (es : List Event) (aligns : (i : ℕ) → i < length es → aligned (ev
       };
     })
 
-    share-or-apart : momentOf (isOperation (eventAt es (event a))) (event a) ≡ a
-        → momentOf (isOperation (eventAt es (event b))) (event b) ≡ b
-        → MayShare (effect es a) (effect es b) ⊎ Apart (effect es a) (effect es b)
+    share-or-apart : IsMoment es a → IsMoment es b → MayShare (effect es a) (effect es b) ⊎ Apart (effect es a) (effect es b)
     share-or-apart p q = by-test (mayShare (effect es a) (effect es b)) refl
       where
         by-test : (t : Bool) → mayShare (effect es a) (effect es b) ≡ t
@@ -105,9 +104,7 @@ module _ (es : List Event) (aligns : (i : ℕ) → i < length es → aligned (ev
         by-test true h = inl (may-share-tells (effect es a) (effect es b) .0 h)
         by-test false h = inr (apart p q (λ m. true≢false (sym (may-share-tells (effect es a) (effect es b) .1 m) ∙ h)))
 
-    both-act : momentOf (isOperation (eventAt es (event a))) (event a) ≡ a
-        → momentOf (isOperation (eventAt es (event b))) (event b) ≡ b
-        → (s : State)
+    both-act : IsMoment es a → IsMoment es b → (s : State)
         → does (event b) (effect es b) (does (event a) (effect es a) s)
         ≡ does (event a) (effect es a) (does (event b) (effect es b) s)
     both-act p q =
