@@ -3,7 +3,7 @@
 use mathlib.Core.Path.{refl}
 use Rattle.little_endian.specs.Number.{numberAt, bytesOf}
 use Rattle.effect.specs.Theorems.{Commutes, ComparesAsTwosComplement}
-use Rattle.effect.specs.Examples.{sums, DocumentSums, effects, EffectsDone}
+use Rattle.effect.specs.Examples.{combinations, DocumentElements, effects, EffectsDone}
 use Rattle.effect.proofs.Commute.{commute}
 use Rattle.effect.proofs.TwosComplement.{rank-orders}
 
@@ -15,9 +15,9 @@ pub comparesAsTwosComplement : ComparesAsTwosComplement
 unfolding ComparesAsTwosComplement
 comparesAsTwosComplement = rank-orders
 
-pub documentSums : DocumentSums
-unfolding DocumentSums sums numberAt bytesOf
-documentSums = refl
+pub documentElements : DocumentElements
+unfolding DocumentElements combinations numberAt bytesOf
+documentElements = refl
 
 pub effectsDone : EffectsDone
 unfolding EffectsDone effects numberAt bytesOf

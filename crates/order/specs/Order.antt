@@ -14,7 +14,7 @@ module _ {A : Type 0} where
     first : {x : A} {o : List A} → a ≡ x → b ∈ o → Before a b (x ∷ o)
     later : {x : A} {o : List A} → Before a b o → Before a b (x ∷ o)
 
-  -- No action is in the order twice.
+  -- No action is in the order twice: one that is comes before itself.
   abbrev pub Once : List A → Type 0
   Once o = (a : A) → ¬ Before a a o
 

@@ -17,8 +17,8 @@ use Rattle.event.specs.Fields.{allowed}
 use Rattle.decoder.specs.declared.Item.{Item}
 use Rattle.decoder.specs.declared.Item.the-variants.{Decoded, UnknownKind, WrongBodyLength, FieldNotAllowed}
 use Rattle.rules.specs.Events.{eventAt}
-use Rattle.rules.specs.Faults.{Lengths, aligned, inRange, faultless, unless, firstOf, faultOf}
-use Rattle.rules.specs.Answers.{partnerOf, clashWith, checks, orGoOn, judged, areMemoryLengths, answerOf}
+use Rattle.rules.specs.Faults.{Lengths, areMemoryLengths, aligned, inRange, faultless, unless, firstOf, faultOf}
+use Rattle.rules.specs.Answers.{partnerOf, clashWith, checks, orGoOn, judged, answerOf}
 use Rattle.rules.specs.Right.{WithinLimits, WellFormed}
 use Rattle.rules.specs.Theorems.{IsAccepted}
 

@@ -18,10 +18,10 @@ use Rattle.answer.specs.Numbers.{numbersOf}
 use Rattle.answer.specs.Table.{eventLimit, fitNamed, fit}
 use Rattle.rules.specs.Events.{eventAt}
 use Rattle.event.specs.Fields.{allowed}
-use Rattle.rules.specs.Faults.{Lengths, aligned, inRange, faultless, firstOf, faultOf}
+use Rattle.rules.specs.Faults.{Lengths, areMemoryLengths, aligned, inRange, faultless, firstOf, faultOf}
 use Rattle.rules.specs.Clashes.{Clean}
 use Rattle.rules.specs.Peak.{peak}
-use Rattle.rules.specs.Answers.{judged, areMemoryLengths, answerOf}
+use Rattle.rules.specs.Answers.{judged, answerOf}
 use Rattle.rules.specs.Right.{WithinLimits, Faultless, Right, too-many-events, memory-length, fault, clash, accepted}
 use Rattle.rules.proofs.Judged.{Judgement, passes, refused, Through, goes-on, stops, judged-through, judged-right, within-limits, named-clash, one-judgement}
 use Rattle.rules.proofs.Accepted.{alone, judged-fault}

@@ -1,6 +1,6 @@
 -- The answer of a list of items and of a file, computed. Theorem `RightAnswer` says that it is the right one.
 use Prim.Native.Nat.{ℕ}
-use mathlib.Core.Bool.{Bool, cond, _&&_}
+use mathlib.Core.Bool.{cond}
 use mathlib.Core.List.{List, [], _∷_, _++_}
 use mathlib.Core.Option.{Option, none, some}
 use lib.ListN.{length}
@@ -13,9 +13,9 @@ use Rattle.decoder.specs.declared.Item.{Item}
 use Rattle.decoder.specs.declared.Item.the-variants.{Decoded, UnknownKind, WrongBodyLength, FieldNotAllowed}
 use Rattle.decoder.specs.Kinds.{refusalOf}
 use Rattle.trace.specs.declared.Header.{Header}
-use Rattle.trace.specs.File.{isMemoryLength, Contents, refused, recorded, fileOf}
+use Rattle.trace.specs.File.{Contents, refused, recorded, fileOf}
 use Rattle.rules.specs.Search.{lowestBelow}
-use Rattle.rules.specs.Faults.{Lengths, firstOf, checksAlone}
+use Rattle.rules.specs.Faults.{Lengths, areMemoryLengths, firstOf, checksAlone}
 use Rattle.rules.specs.Peak.{peak}
 use Rattle.rules.specs.Tests.{clashes}
 
@@ -44,9 +44,6 @@ judged lengths before (Decoded e ∷ items) =
 judged lengths before (UnknownKind ∷ items) = refusalOf (length before) UnknownKind
 judged lengths before (WrongBodyLength ∷ items) = refusalOf (length before) WrongBodyLength
 judged lengths before (FieldNotAllowed ∷ items) = refusalOf (length before) FieldNotAllowed
-
-abbrev pub areMemoryLengths : Lengths → Bool
-areMemoryLengths lengths = isMemoryLength (lengths .global) && isMemoryLength (lengths .shared)
 
 -- The answer of a list of items under two memory lengths: 3, then 4, then events in order.
 unfoldable pub answerOf : Lengths → List Item → Answer

@@ -1,4 +1,4 @@
--- What can be wrong with an item of a list by itself: codes 5 to 9.
+-- Memory lengths, and what can be wrong with an item of a list by itself: codes 5 to 9.
 use Prim.Native.Nat.{ℕ, _+_, _%_}
 use mathlib.Core.Bool.{Bool, true, false, _&&_, _||_}
 use mathlib.Core.List.{List, [], _∷_}
@@ -14,6 +14,7 @@ use Rattle.decoder.specs.declared.Item.{Item}
 use Rattle.decoder.specs.declared.Item.the-variants.{Decoded, UnknownKind, WrongBodyLength, FieldNotAllowed}
 use Rattle.decoder.specs.Encoding.{offsetOf}
 use Rattle.decoder.specs.Kinds.{refusalOf}
+use Rattle.trace.specs.File.{isMemoryLength}
 use Rattle.effect.specs.Memory.{Space, Global, Shared}
 use Rattle.effect.specs.Access.{Access}
 use Rattle.rules.specs.Search.{orElse}
@@ -23,6 +24,10 @@ use Rattle.rules.specs.Events.{accesses}
 pub record Lengths : Type 0 where
   pub global : ℕ
   pub shared : ℕ
+
+-- Neither is over 65,536 (4).
+abbrev pub areMemoryLengths : Lengths → Bool
+areMemoryLengths lengths = isMemoryLength (lengths .global) && isMemoryLength (lengths .shared)
 
 abbrev pub lengthOf : Lengths → Space → ℕ
 lengthOf lengths Global = lengths .global

@@ -53,6 +53,6 @@ abbrev pub momentOf : Bool → ℕ → Action
 momentOf true i = act i
 momentOf false i = turn i
 
--- The action at which an access of event i happens.
+-- The action at which an access of event i happens. An operation acts whole: both its accesses happen at once.
 abbrev pub happensAt : ℕ → Event → Access → Action
 happensAt i e x = momentOf (isOperation e) i
