@@ -5,7 +5,7 @@ use native.Mathlib.Omega.{arith}
 use mathlib.Core.Path.{_≡_, refl, ap}
 use mathlib.Core.Bool.{Bool, true, false, cond, _&&_}
 use mathlib.Core.List.{List, [], _∷_, _++_, map}
-use mathlib.Core.Option.{Option, none, some}
+use mathlib.Core.Option.{Option, none, some, orElse}
 use lib.ListN.{length, length-append, length-map}
 use lib.Dec.{leb}
 use borrow.Author.Tests.{leb-true, le-leb}
@@ -31,6 +31,7 @@ alone j f a r =
 by-tests : (j : ℕ) (f a r : Bool) (o : Option ℕ) (next : Answer)
     → IsAccepted (orGoOn (firstOf (alone j f a r ++ clashWith j o ∷ [])) next)
     → ((f && a && r) ≡ true) × IsAccepted next
+unfolding orElse
 by-tests j true true true none next h = (refl, h)
 by-tests j true true true (some p) next h = absurd (omega arith)
 by-tests j true true false o next h = absurd (omega arith)
@@ -92,6 +93,7 @@ module _ (lengths : Lengths) where
   fault-first : (j : ℕ) (f a r : Bool) (o : Option ℕ) {fault : Answer} (next : Answer)
       → firstOf (alone j f a r) ≡ some fault
       → orGoOn (firstOf (alone j f a r ++ clashWith j o ∷ [])) next ≡ fault
+  unfolding orElse
   fault-first j true true true o next h = let z : _≡_ {A = ℕ} 0 1 = cc in absurd (omega arith)
   fault-first j true true false o next h = cc
   fault-first j true false r o next h = cc

@@ -2,6 +2,7 @@
 -- Assumes nothing.
 use Prim.Native.Nat.{ℕ, zero, suc, _<_}
 use native.Mathlib.Omega.{arith}
+use mathlib.Core.Option.{orElse}
 use mathlib.Core.Path.{refl}
 use mathlib.Core.Bool.{false≢true}
 use mathlib.Core.List.{List, [], _∷_, List·Memᴰ·head, List·Memᴰ·tail, List·Memᴰ·not-nil}
@@ -20,11 +21,11 @@ use Rattle.rules.proofs.Actions.{in-actions}
 use Rattle.rules.proofs.Orders.{has-order}
 
 pub readRight : ReadRight
-unfolding ReadRight wrongReadings bytesOf isValue allowed aligned inRange groups closedBy isOpen peak clashes judged answerOf
+unfolding ReadRight wrongReadings bytesOf isValue allowed aligned inRange groups closedBy isOpen peak clashes judged answerOf orElse
 readRight = refl
 
 pub bothSides : BothSides
-unfolding BothSides examples bytesOf isValue allowed aligned inRange groups closedBy isOpen peak clashes judged answerOf
+unfolding BothSides examples bytesOf isValue allowed aligned inRange groups closedBy isOpen peak clashes judged answerOf orElse
 bothSides = refl
 
 pub runsGive : RunsGive

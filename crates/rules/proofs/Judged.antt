@@ -7,7 +7,7 @@ use mathlib.Core.Path.{_≡_, refl, sym, _∙_, ap}
 use mathlib.Core.Logic.{_↔_, ⊎-elim}
 use mathlib.Core.Bool.{true, false, true≢false}
 use mathlib.Core.List.{List, [], _∷_, _++_, map, append-assoc, append-nil}
-use mathlib.Core.Option.{Option, none, some}
+use mathlib.Core.Option.{Option, none, some, orElse}
 use lib.ListN.{length, take, length-append, length-take}
 use borrow.Author.Tests.{le-leb}
 use Rattle.event.specs.declared.Event.{Event}
@@ -22,7 +22,6 @@ use Rattle.event.specs.Fields.{allowed}
 use Rattle.rules.specs.Faults.{Lengths, aligned, inRange, faultless, firstOf}
 use Rattle.rules.specs.Clashes.{EventsClash, Clean}
 use Rattle.rules.specs.Tests.{clashes}
-use Rattle.rules.specs.Search.{orElse}
 use Rattle.rules.specs.Answers.{partnerOf, clashWith, checks, orGoOn, judged, answerOf}
 use Rattle.rules.proofs.Search.{below-or-last, Lowest, none-below, lowest-below}
 use Rattle.rules.proofs.Clashes.{clash-tells, clash-sym, clash-events}
@@ -101,6 +100,7 @@ module _ (lengths : Lengths) where
   -- the checks of a faultless event come down to the clash
   checks-clash : (before : List Event) (e : Event) → faultless lengths e ≡ true
       → firstOf (checks lengths before e) ≡ orElse (clashWith (length before) (partnerOf before e)) none
+  unfolding orElse
   checks-clash before e h =
       let (f, a, r) = all-three (allowed e) (aligned e) (inRange lengths e) h in
       rw (f, a, r)
@@ -112,7 +112,7 @@ module _ (lengths : Lengths) where
 
   through : (rest before : List Event) (tail : List Item) → Faultless lengths rest → Passed before
       → Through (before ++ rest) tail (judged lengths before (map Decoded rest ++ tail))
-  unfolding judged
+  unfolding judged orElse
   through [] before tail fl passed = rw append-nil (goes-on (passed-clean before passed))
   through (e ∷ rest) before tail fl passed =
       rw (checks-clash before e (fl .each 0 (omega arith)))

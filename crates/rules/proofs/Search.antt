@@ -7,9 +7,9 @@ use mathlib.Core.Path.{_≡_, refl, _∙_, ap₂}
 use mathlib.Core.Logic.{Iff·trans, _⊎_, inl, inr, ⊎-elim}
 use mathlib.Core.Bool.{Bool, true, false, cond, _||_, false≢true}
 use mathlib.Core.List.{List, [], _∷_, List·Memᴰ·head, List·Memᴰ·tail, List·Memᴰ·not-nil, List·Memᴰ·cases-cons}
-use mathlib.Core.Option.{Option, none, some}
+use mathlib.Core.Option.{Option, none, some, orElse}
 use Rattle.order.specs.Order.{_∈_}
-use Rattle.rules.specs.Search.{orElse, anyIn, anyBelow, countBelow, lowestBelow}
+use Rattle.rules.specs.Search.{anyIn, anyBelow, countBelow, lowestBelow}
 use Rattle.rules.proofs.Booleans.{Tells, or-tells, or-cases, or-right}
 
 pub below-or-last : {w n : ℕ} → w < suc n → (w < n) ⊎ (w ≡ n)
@@ -74,6 +74,7 @@ module _ (p : ℕ → Bool) where
     pub others : (i : ℕ) → i < m → p i ≡ false
 
   pub none-below : (n : ℕ) → lowestBelow p n ≡ none → (i : ℕ) → i < n → p i ≡ false
+  unfolding orElse
   none-below zero h i l = absurd (omega arith)
   none-below (suc n) h i l = by-parts (lowestBelow p n) (p n) refl refl h (none-below n)
     where
@@ -84,6 +85,7 @@ module _ (p : ℕ → Bool) where
       by-parts (some m) t e f g ih = let z : _≡_ {A = ℕ} 0 1 = cc in absurd (omega arith)
 
   pub lowest-below : (n m : ℕ) → lowestBelow p n ≡ some m → Lowest n m
+  unfolding orElse
   lowest-below zero m h = let z : _≡_ {A = ℕ} 0 1 = cc in absurd (omega arith)
   lowest-below (suc n) m h = by-parts (lowestBelow p n) (p n) refl refl h (lowest-below n m)
     where

@@ -1,5 +1,6 @@
 -- The table of specs/Traces.antt, computed from the definitions.
 -- Assumes nothing.
+use mathlib.Core.Option.{orElse}
 use mathlib.Core.Path.{refl}
 use Rattle.little_endian.specs.Number.{numberAt, bytesOf}
 use Rattle.event.specs.Fields.{isValue, allowed}
@@ -14,5 +15,5 @@ use Rattle.rules.specs.Answers.{judged, answerOf, answerOfFile}
 use Rattle.rules.specs.Traces.{traces, K1ToK10}
 
 pub k1ToK10 : K1ToK10
-unfolding K1ToK10 traces numberAt bytesOf isValue allowed checked modeOf ofLength decodeOf entriesZero bodyLengths isShape shapeOf firstItems fileOf aligned inRange groups closedBy isOpen peak clashes judged answerOf answerOfFile
+unfolding K1ToK10 traces numberAt bytesOf isValue allowed checked modeOf ofLength decodeOf entriesZero bodyLengths isShape shapeOf firstItems fileOf aligned inRange groups closedBy isOpen peak clashes judged answerOf answerOfFile orElse
 k1ToK10 = refl

@@ -2,7 +2,7 @@
 use Prim.Native.Nat.{ℕ, _+_, _%_}
 use mathlib.Core.Bool.{Bool, true, false, _&&_, _||_}
 use mathlib.Core.List.{List, [], _∷_}
-use mathlib.Core.Option.{Option, none, some}
+use mathlib.Core.Option.{Option, none, some, orElse}
 use lib.Dec.{leb}
 use Rattle.little_endian.specs.Number.{isZero}
 use Rattle.answer.specs.declared.Answer.{Answer}
@@ -17,7 +17,6 @@ use Rattle.decoder.specs.Kinds.{refusalOf}
 use Rattle.trace.specs.File.{isMemoryLength}
 use Rattle.effect.specs.Memory.{Space, Global, Shared}
 use Rattle.effect.specs.Access.{Access}
-use Rattle.rules.specs.Search.{orElse}
 use Rattle.rules.specs.Events.{accesses}
 
 -- How many bytes each memory has.
