@@ -1,0 +1,6 @@
+-- What the contracts of `operations` cite. Nobody has to believe it: it says how the judge keeps track, and crate `judge`
+-- proves that this gives the answers of the rules.
+pub mod Tag
+pub mod Table
+pub mod Clash
+pub mod Waiting
