@@ -8,6 +8,7 @@ pub mod Meeting
 pub mod Clashes
 pub mod Prefix
 pub mod Peak
+pub mod Next
 pub mod Range
 pub mod Judged
 pub mod Accepted
