@@ -118,7 +118,7 @@ fn is_pair(operation: Operation, element: ElementType) -> bool
         | (3 <= operation) & (operation <= 5) & (1 <= element) & (element <= 2)
 }
 
-fn operation_number(operation: Operation) -> u32
+pub fn operation_number(operation: Operation) -> u32
     ensures { λ r. ⌜ r ≡ operationNumber operation ⌝ }
 {
     match operation {
@@ -131,7 +131,7 @@ fn operation_number(operation: Operation) -> u32
     }
 }
 
-fn type_number(element: ElementType) -> u32
+pub fn type_number(element: ElementType) -> u32
     ensures { λ r. ⌜ r ≡ typeNumber element ⌝ }
 {
     match element {

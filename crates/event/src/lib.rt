@@ -1,6 +1,9 @@
 // What a trace records: the thread's accesses, the copies and reductions, the commits and waits (document 01).
 mod fields;
 
+pub use fields::operation_number;
+pub use fields::type_number;
+
 // An address counts the bytes of one memory from 0. The two are numbers of different kinds: neither stands for the other.
 pub struct GlobalAddress(pub u32);
 
