@@ -1,0 +1,2 @@
+-- Laws of what an event is to the table.
+pub mod Numbers

@@ -1,0 +1,20 @@
+-- `parts::copy` meets its contract.
+-- Assumes nothing.
+use borrow.Author.Needs.{needs}
+use Rattle.parts.proofs.copy.Statement.{statement}
+use Rattle.parts.proofs.copy.Tie as tie
+use Rattle.parts.proofs.copy.Reads as reads
+use Rattle.parts.proofs.copy.Lts as lts
+use Rattle.parts.proofs.bytes.Reads as bytes-reads
+
+bytes-requires : tie.Need-bytes-requires
+bytes-requires c κs = search needs
+
+bytes-requires-2 : tie.Need-bytes-requires-2
+bytes-requires-2 c κs = search needs
+
+returns : tie.Need-returns
+returns c = rw (c .before .bytes .ensures, c .bytes2 .ensures)
+
+pub copy-spec : {M : Type 1} → statement M
+copy-spec = tie.close (tie.spec bytes-requires bytes-requires-2 returns)
