@@ -58,7 +58,7 @@ fn fit_named(named: Named, event: u32, partner: u32, peak: u32) -> bool
 
 impl Numbers {
     // Whether a sheet can hold these numbers.
-    pub(crate) fn fit(self) -> bool
+    pub fn fit(self) -> bool
         ensures { λ r. ⌜ r ≡ fit self ⌝ }
     {
         fit_named(named_by(self.code), self.event, self.partner, self.peak)

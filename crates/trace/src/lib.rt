@@ -9,6 +9,7 @@ pub use items::ENOUGH;
 pub use items::check;
 pub use items::entry_of;
 pub use items::item_at;
+pub use table::MEMORY_LIMIT;
 pub use table::entry_at;
 pub use table::shape_of;
 

@@ -15,7 +15,7 @@ const HEADER_LENGTH: usize = 12;
 
 pub(crate) const ENTRY_LENGTH: usize = 4;
 
-const MEMORY_LIMIT: u32 = 65536;
+pub const MEMORY_LIMIT: u32 = 65536;
 
 // The header of a file of the shape that document 01 asks for, or its refusal.
 pub fn shape_of(beginning: &[u8], total: usize) -> Shape

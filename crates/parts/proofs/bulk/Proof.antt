@@ -3,9 +3,6 @@
 use borrow.Author.Needs.{needs}
 use Rattle.parts.proofs.bulk.Statement.{statement}
 use Rattle.parts.proofs.bulk.Tie as tie
-use Rattle.parts.proofs.bulk.Reads as reads
-use Rattle.parts.proofs.bulk.Lts as lts
-use Rattle.parts.proofs.bytes.Reads as bytes-reads
 
 bytes-requires : tie.Need-bytes-requires
 bytes-requires c κs = search needs

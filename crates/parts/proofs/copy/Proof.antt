@@ -3,9 +3,6 @@
 use borrow.Author.Needs.{needs}
 use Rattle.parts.proofs.copy.Statement.{statement}
 use Rattle.parts.proofs.copy.Tie as tie
-use Rattle.parts.proofs.copy.Reads as reads
-use Rattle.parts.proofs.copy.Lts as lts
-use Rattle.parts.proofs.bytes.Reads as bytes-reads
 
 bytes-requires : tie.Need-bytes-requires
 bytes-requires c κs = search needs

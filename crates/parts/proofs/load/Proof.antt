@@ -3,10 +3,6 @@
 use borrow.Author.Needs.{needs}
 use Rattle.parts.proofs.load.Statement.{statement}
 use Rattle.parts.proofs.load.Tie as tie
-use Rattle.parts.proofs.load.Reads as reads
-use Rattle.parts.proofs.load.Lts as lts
-use Rattle.parts.proofs.access.Reads as access-reads
-use Rattle.parts.proofs.bytes.Reads as bytes-reads
 
 enum-known-address : tie.Need-enum-known-address
 enum-known-address c = search needs

@@ -3,18 +3,6 @@
 use borrow.Author.Needs.{needs}
 use Rattle.parts.proofs.part_of.Statement.{statement}
 use Rattle.parts.proofs.part_of.Tie as tie
-use Rattle.parts.proofs.part_of.Reads as reads
-use Rattle.parts.proofs.part_of.Lts as lts
-use Rattle.checks.proofs.bytes_read.Reads as bytes-read-reads
-use Rattle.parts.proofs.bulk.Reads as bulk-reads
-use Rattle.parts.proofs.commit_bulk.Reads as commit-bulk-reads
-use Rattle.parts.proofs.commit_copies.Reads as commit-copies-reads
-use Rattle.parts.proofs.copy.Reads as copy-reads
-use Rattle.parts.proofs.load.Reads as load-reads
-use Rattle.parts.proofs.reduction_tag.Reads as reduction-tag-reads
-use Rattle.parts.proofs.store.Reads as store-reads
-use Rattle.parts.proofs.wait_bulk.Reads as wait-bulk-reads
-use Rattle.parts.proofs.wait_copies.Reads as wait-copies-reads
 
 enum-known-event : tie.Need-enum-known-event
 enum-known-event c = search needs

@@ -5,10 +5,6 @@ use Rattle.parts.proofs.Numbers.{few-operations, few-types}
 use borrow.Author.Needs.{needs}
 use Rattle.parts.proofs.reduction_tag.Statement.{statement}
 use Rattle.parts.proofs.reduction_tag.Tie as tie
-use Rattle.parts.proofs.reduction_tag.Reads as reads
-use Rattle.parts.proofs.reduction_tag.Lts as lts
-use Rattle.event.proofs.operation_number.Reads as operation-number-reads
-use Rattle.event.proofs.type_number.Reads as type-number-reads
 
 operation-number-requires : tie.Need-operation-number-requires
 operation-number-requires c κs = search needs

@@ -3,10 +3,6 @@
 use borrow.Author.Needs.{needs}
 use Rattle.parts.proofs.store.Statement.{statement}
 use Rattle.parts.proofs.store.Tie as tie
-use Rattle.parts.proofs.store.Reads as reads
-use Rattle.parts.proofs.store.Lts as lts
-use Rattle.parts.proofs.access.Reads as access-reads
-use Rattle.parts.proofs.bytes.Reads as bytes-reads
 
 enum-known-address : tie.Need-enum-known-address
 enum-known-address c = search needs

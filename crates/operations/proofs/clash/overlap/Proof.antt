@@ -1,14 +1,11 @@
 -- `overlap` meets its contract.
 -- Assumes nothing.
 use native.Mathlib.Omega.{arith}
-use mathlib.Core.Path.{refl}
 use mathlib.Core.Bool.{false≢true}
 use Rattle.operations.proofs.Ranges.{starts-in, share-sym}
 use borrow.Author.Needs.{needs}
 use Rattle.operations.proofs.clash.overlap.Statement.{statement}
 use Rattle.operations.proofs.clash.overlap.Tie as tie
-use Rattle.operations.proofs.clash.overlap.Reads as reads
-use Rattle.operations.proofs.clash.overlap.Lts as lts
 
 returns : tie.Need-returns
 returns c = (λ e. absurd (false≢true e), λ s. absurd (omega (arith, s .in-first .from, s .in-first .below)))

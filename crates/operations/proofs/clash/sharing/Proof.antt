@@ -6,11 +6,6 @@ use Rattle.operations.proofs.Ranges.{same-test, clash-shared, clash-sam
 use borrow.Author.Needs.{needs}
 use Rattle.operations.proofs.clash.sharing.Statement.{statement}
 use Rattle.operations.proofs.clash.sharing.Tie as tie
-use Rattle.operations.proofs.clash.sharing.Reads as reads
-use Rattle.operations.proofs.clash.sharing.Lts as lts
-use Rattle.operations.proofs.clash.overlap.Reads as overlap-reads
-use Rattle.operations.proofs.tag.may_share.Reads as may-share-reads
-use Rattle.operations.proofs.tag.written_in.Reads as written-in-reads
 
 may-share-requires : tie.Need-may-share-requires
 may-share-requires c κs = search needs

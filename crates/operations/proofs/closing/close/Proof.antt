@@ -1,14 +1,11 @@
 -- `close` meets its contract.
 -- Assumes nothing.
-use Prim.Native.Nat.{_≤_, _*_, _-_}
+use Prim.Native.Nat.{_-_}
 use native.Mathlib.Omega.{arith}
 use mathlib.Core.Path.{_≡_}
 use Rattle.operations.proofs.Keeping.{Closed, closed-start, closed-next}
 use Rattle.operations.proofs.closing.close.Statement.{statement}
 use Rattle.operations.proofs.closing.close.Tie as tie
-use Rattle.operations.proofs.closing.close.Reads as reads
-use Rattle.operations.proofs.closing.close.Lts as lts
-use Rattle.operations.proofs.closing.close_one.Reads as close-one-reads
 
 abbrev Inv-loop : tie.InvT-loop
 Inv-loop ranges₀ marks₀ count wait stay₀ index₀ ranges marks stay index = Closed wait ranges₀ marks₀ count index stay ranges marks

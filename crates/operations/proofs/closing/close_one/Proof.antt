@@ -2,7 +2,7 @@
 -- Assumes nothing.
 use native.Mathlib.Omega.{arith}
 use Prim.Native.Nat.{_*_}
-use mathlib.Core.Path.{_≡_, refl, sym, ap, _∙_}
+use mathlib.Core.Path.{refl, sym, ap, _∙_}
 use denote.Ref.{now}
 use lib.Seq.{sets}
 use Rattle.operations.specs.Table.{rangeWords, markWords}
@@ -10,11 +10,6 @@ use Rattle.operations.specs.Waiting.{staysOpen}
 use borrow.Author.Needs.{needs}
 use Rattle.operations.proofs.closing.close_one.Statement.{statement}
 use Rattle.operations.proofs.closing.close_one.Tie as tie
-use Rattle.operations.proofs.closing.close_one.Reads as reads
-use Rattle.operations.proofs.closing.close_one.Lts as lts
-use Rattle.operations.proofs.closing.stays_open.Reads as stays-open-reads
-use Rattle.operations.proofs.table.put.Reads as put-reads
-use Rattle.operations.proofs.table.record_at.Reads as record-at-reads
 
 record-at-requires : tie.Need-record-at-requires
 record-at-requires c κs = search needs

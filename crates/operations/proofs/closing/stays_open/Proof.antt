@@ -8,9 +8,6 @@ use Rattle.operations.proofs.Keeping.{stays-other, stays-by-count, by-d
 use borrow.Author.Needs.{needs}
 use Rattle.operations.proofs.closing.stays_open.Statement.{statement}
 use Rattle.operations.proofs.closing.stays_open.Tie as tie
-use Rattle.operations.proofs.closing.stays_open.Reads as reads
-use Rattle.operations.proofs.closing.stays_open.Lts as lts
-use Rattle.operations.proofs.tag.chain_in.Reads as chain-in-reads
 
 chain-in-requires : tie.Need-chain-in-requires
 chain-in-requires c κs = search needs

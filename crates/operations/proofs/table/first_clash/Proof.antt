@@ -9,10 +9,6 @@ use Rattle.operations.specs.Clash.{clashOf, firstClash}
 use Rattle.operations.proofs.Searching.{none-yet, found-here}
 use Rattle.operations.proofs.table.first_clash.Statement.{statement}
 use Rattle.operations.proofs.table.first_clash.Tie as tie
-use Rattle.operations.proofs.table.first_clash.Reads as reads
-use Rattle.operations.proofs.table.first_clash.Lts as lts
-use Rattle.operations.proofs.clash.sharing.Reads as sharing-reads
-use Rattle.operations.proofs.table.record_at.Reads as record-at-reads
 
 abbrev Inv-loop : tie.InvT-loop
 Inv-loop ranges marks count event index₀ index = (index ≤ count) × (firstClash event (records index ranges marks) ≡ Nobody)

@@ -6,8 +6,6 @@ use lib.ListN.{length-set}
 use borrow.Author.Needs.{needs}
 use Rattle.operations.proofs.table.put.Statement.{statement}
 use Rattle.operations.proofs.table.put.Tie as tie
-use Rattle.operations.proofs.table.put.Reads as reads
-use Rattle.operations.proofs.table.put.Lts as lts
 
 mul-word : tie.Need-mul-word
 mul-word c = search needs

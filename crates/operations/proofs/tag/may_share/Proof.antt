@@ -3,9 +3,6 @@
 use borrow.Author.Needs.{needs}
 use Rattle.operations.proofs.tag.may_share.Statement.{statement}
 use Rattle.operations.proofs.tag.may_share.Tie as tie
-use Rattle.operations.proofs.tag.may_share.Reads as reads
-use Rattle.operations.proofs.tag.may_share.Lts as lts
-use Rattle.operations.proofs.tag.reduction_in.Reads as reduction-in-reads
 
 reduction-in-requires : tie.Need-reduction-in-requires
 reduction-in-requires c κs = search needs

@@ -1,0 +1,55 @@
+-- `State::counted` meets its contract.
+-- Assumes nothing.
+use native.Mathlib.Omega.{arith}
+use mathlib.Core.Path.{sym, ap, _∙_}
+use Rattle.judge.proofs.Sound.{counted-past, counted-odd, counted-kept}
+use borrow.Author.Needs.{needs}
+use Rattle.judge.proofs.State.counted.Statement.{statement}
+use Rattle.judge.proofs.State.counted.Tie as tie
+
+add-ended : tie.Need-add-ended
+add-ended c = search needs
+
+ended-requires : tie.Need-ended-requires
+ended-requires c κs = search needs
+
+returns : tie.Need-returns
+returns c = c .ended .ensures ∙ sym (counted-past _ (c .before .if1 .taken))
+
+numbers-requires : tie.Need-numbers-requires
+numbers-requires c κs = search needs
+
+add-ended-2 : tie.Need-add-ended-2
+add-ended-2 c = search needs
+
+ended-requires-2 : tie.Need-ended-requires-2
+ended-requires-2 c κs = search needs
+
+returns-2 : tie.Need-returns-2
+returns-2 c = c .ended2 .ensures ∙ sym (counted-odd _ (omega arith) (ap (λ n. n .code) (sym (c .before .before .before .before .numbers .ensures)) ∙ c .before .before .if2 .taken))
+
+add-ended-3 : tie.Need-add-ended-3
+add-ended-3 c = search needs
+
+ended-requires-3 : tie.Need-ended-requires-3
+ended-requires-3 c κs = search needs
+
+returns-3 : tie.Need-returns-3
+returns-3 c =
+    c .ended3 .ensures
+    ∙ sym (counted-kept _ (omega arith) (λ e. c .before .before .if2 .left (ap (λ n. n .code) (c .before .before .before .before .numbers .ensures) ∙ e)))
+
+pub counted-spec : {M : Type 1} → statement M
+counted-spec =
+    tie.close
+    (tie.spec
+    add-ended
+    ended-requires
+    returns
+    numbers-requires
+    add-ended-2
+    ended-requires-2
+    returns-2
+    add-ended-3
+    ended-requires-3
+    returns-3)

@@ -1,0 +1,3 @@
+-- What the contracts of `judge` cite, and the statements of the theorems about it.
+pub mod Left
+pub mod Keeping

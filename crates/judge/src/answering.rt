@@ -1,0 +1,76 @@
+// The opening state, and the answer that a state tells.
+use crate::State;
+use answer::Answer;
+use answer::EVENT_LIMIT;
+use parts::Made;
+use trace::MEMORY_LIMIT;
+ghost use mathlib.Core.Path.{_≡_};
+ghost use mathlib.Core.List.{List, []};
+ghost use Prim.Native.Nat.{ℕ, _≤_};
+ghost use lib.ListN.{length};
+ghost use Rattle.answer.specs.Theorems.{Given};
+ghost use Rattle.decoder.specs.declared.Item.{Item};
+ghost use Rattle.rules.specs.Faults.{Lengths};
+ghost use Rattle.rules.specs.Answers.{answerOf};
+ghost use Rattle.judge.specs.Keeping.{isSound, answerIn};
+ghost use Rattle.judge.specs.Left.{placeLength, Left};
+
+impl State {
+    // The state before the first event of a list under these memory lengths. Places of any contents go with it.
+    pub fn opening(global: u32, shared: u32) -> State
+        ensures { λ r. ⌜ ((ranges marks : List ℕ) → placeLength ≤ length ranges → placeLength ≤ length marks → Left (record { global = global; shared = shared }) [] r ranges marks) ⌝ }
+    {
+        let refusal = if (global <= MEMORY_LIMIT) & (shared <= MEMORY_LIMIT) {
+            Answer::NoVerdict
+        } else {
+            Answer::WrongMemoryLength
+        };
+        State {
+            events: 0,
+            peak: 0,
+            unclosed: 0,
+            made: Made { copies: 0, bulk: 0 },
+            global,
+            shared,
+            refusal,
+        }
+    }
+
+    // The answer of the list so far, taken as a whole list. A state that no judge leaves is refused as a wrong shape,
+    // where that shows.
+    pub fn answer(self) -> Answer
+        ensures { λ r. ⌜ ((lengths : Lengths) (items : List Item) (ranges marks : List ℕ) → Left lengths items self ranges marks → r ≡ answerOf lengths items) ⌝ }
+        ensures { λ r. ⌜ r ≡ answerIn self ⌝ }
+        ensures { λ r. ⌜ Given r ⌝ }
+    {
+        let refusal = self.refusal;
+        let numbers = refusal.numbers();
+        if numbers.code == 0 {
+            if self.sound() {
+                Answer::Accepted {
+                    events: self.events,
+                    peak: self.peak,
+                }
+            } else {
+                Answer::WrongShape
+            }
+        } else if (2 <= numbers.code) & numbers.fit() {
+            refusal
+        } else {
+            Answer::WrongShape
+        }
+    }
+
+    // Whether the numbers are such as a judge leaves that has refused nothing.
+    pub(crate) fn sound(self) -> bool
+        ensures { λ r. ⌜ r ≡ isSound self ⌝ }
+    {
+        (self.unclosed <= self.peak)
+            & (self.peak <= self.events)
+            & (self.events <= EVENT_LIMIT)
+            & (self.made.copies <= self.events)
+            & (self.made.bulk <= self.events)
+            & (self.global <= MEMORY_LIMIT)
+            & (self.shared <= MEMORY_LIMIT)
+    }
+}
