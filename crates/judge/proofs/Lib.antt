@@ -7,3 +7,4 @@ pub mod Answers
 pub mod Leaving
 pub mod Carrying
 pub mod Telling
+pub mod Beginnings

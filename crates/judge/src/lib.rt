@@ -1,10 +1,13 @@
 // The judge: one event at a time, or a whole file. What it keeps of open operations stands in two places that a host lends
 // to each step, `ranges` and `marks`, each of PLACE_LENGTH words or more.
 mod answering;
+mod file;
 mod stepping;
 
 use answer::Answer;
 use answer::EVENT_LIMIT;
+pub use file::judge;
+pub use file::judge_beginning;
 use parts::Made;
 
 // The words of each lent place: four for each operation that can be open.
