@@ -1,6 +1,6 @@
 -- Numbers as a line of text: in decimal, with one space between and a newline after the last.
-use Prim.Native.Nat.{ℕ, zero, suc, _+_, _/_}
-use mathlib.Core.Bool.{Bool, cond}
+use Prim.Native.Nat.{ℕ, zero, suc, _+_, _-_, _/_}
+use mathlib.Core.Bool.{Bool, cond, _&&_}
 use mathlib.Core.List.{List, [], _∷_, _++_}
 use lib.Dec.{ltb, leb, eqb}
 use lib.ListN.{length, getD, drop}
@@ -37,3 +37,18 @@ countOf numbers out = cond (hasRoom numbers out) (length (lineOf numbers)) 0
 
 unfoldable pub leavesOf : List ℕ → List ℕ → List ℕ
 leavesOf numbers out = cond (hasRoom numbers out) (lineOf numbers ++ drop (length (lineOf numbers)) out) out
+
+-- With a name and a space before the numbers.
+abbrev pub namedLine : List ℕ → List ℕ → List ℕ
+namedLine name numbers = name ++ 32 ∷ lineOf numbers
+
+abbrev pub roomForBoth : List ℕ → List ℕ → List ℕ → Bool
+roomForBoth name numbers out =
+    ltb (length name) (length out) && leb (length numbers) ((length out - (length name + 1)) / 11)
+
+unfoldable pub namedCount : List ℕ → List ℕ → List ℕ → ℕ
+namedCount name numbers out = cond (roomForBoth name numbers out) (length (namedLine name numbers)) 0
+
+unfoldable pub namedLeaves : List ℕ → List ℕ → List ℕ → List ℕ
+namedLeaves name numbers out =
+    cond (roomForBoth name numbers out) (namedLine name numbers ++ drop (length (namedLine name numbers)) out) out

@@ -6,7 +6,7 @@ ghost use Prim.Native.Nat.{_+_, _*_, _≤_, _<_};
 ghost use lib.Dec.{eqb};
 ghost use lib.ListN.{length, take, drop};
 ghost use Rattle.io.specs.Counts.{Counts};
-ghost use Rattle.line.specs.Text.{decimalOf, lineOf, countOf, leavesOf};
+ghost use Rattle.line.specs.Text.{decimalOf, lineOf, countOf, leavesOf, namedCount, namedLeaves};
 
 // Ten digits and what ends them.
 pub const NUMBER_LENGTH: usize = 11;
@@ -23,6 +23,24 @@ pub fn lay_out(numbers: &[u32], out: &mut [u8]) -> usize
     } else {
         0
     }
+}
+
+// The same with a name and a space before the numbers.
+pub fn lay_out_named(name: &[u8], numbers: &[u32], out: &mut [u8]) -> usize
+    ensures { λ r. ⌜ r ≡ namedCount (now (name .entry)) (now (numbers .entry)) (now (out .entry)) ⌝ }
+    ensures { λ _. ⌜ now (out .exit) ≡ namedLeaves (now (name .entry)) (now (numbers .entry)) (now (out .entry)) ⌝ }
+    ensures { λ r. ⌜ Counts r (now (out .exit)) ⌝ }
+{
+    if out.len() <= name.len() {
+        return 0;
+    }
+    let start = name.len() + 1;
+    if (out.len() - start) / NUMBER_LENGTH < numbers.len() {
+        return 0;
+    }
+    bytes::copy(name, out);
+    out[name.len()] = b' ';
+    start + lay_out(numbers, &mut out[start..])
 }
 
 fn put_all(numbers: &[u32], out: &mut [u8]) -> usize
