@@ -27,7 +27,7 @@ use Rattle.rules.proofs.Judged.{Through, goes-on, stops, judged-through, named-
 use Rattle.rules.proofs.Accepted.{alone, accepted-well-formed, judged-fault}
 use Rattle.rules.proofs.Files.{list-fits}
 use Rattle.rules.proofs.Lists.{accepted-clean}
-use Rattle.judge.specs.Left.{isAccepted}
+use Rattle.judge.specs.AsLeft.{isAccepted}
 
 -- ---- no answer of a list is no verdict
 pub some-verdict : (lengths : Lengths) (items : List Item) → ¬ (codeOf (answerOf lengths items) ≡ 0)

@@ -3,11 +3,13 @@
 use Prim.Native.Nat.{ℕ, zero, suc, _+_, _*_, _-_, _≤_, _<_}
 use native.Mathlib.Omega.{arith}
 use mathlib.Core.Path.{_≡_, refl, sym, ap, ap₂, _∙_}
-use mathlib.Core.Bool.{Bool, true, false, _&&_, true≢false, and-false}
+use mathlib.Core.Bool.{Bool, true, false, cond, _&&_, true≢false, and-false}
 use mathlib.Core.List.{List, [], _∷_, _++_, map}
-use lib.ListN.{length, take}
+use lib.ListN.{length, take, length-take}
 use lib.Seq.{take-all}
+use borrow.Author.Tests.{le-leb, lt-leb}
 use Rattle.answer.specs.declared.Answer.{Answer}
+use Rattle.answer.specs.declared.Answer.the-variants.{WrongShape}
 use Rattle.answer.specs.Table.{eventLimit}
 use Rattle.event.specs.declared.Event.{Event}
 use Rattle.decoder.specs.declared.Item.{Item}
@@ -86,7 +88,9 @@ pub beginning-answers : (f : List ℕ) (k : ℕ) → 12 + 28 * eventLimit ≤ k
     → answerOfBeginning (take k f) (length f) ≡ answerOfFile f
 unfolding answerOfBeginning answerOfFile fileOf
 beginning-answers f k enough =
-    ap (λ s. answerOfContents (heldContents (take k f) s)) (shape-decided eventLimit k f enough)
+    ap (λ t. cond t (answerOfContents (heldContents (take k f) (shapeOf eventLimit (take k f) (length f)))) WrongShape)
+    (le-leb (length (take k f)) (length f) (omega (arith, length-take k f)))
+    ∙ ap (λ s. answerOfContents (heldContents (take k f) s)) (shape-decided eventLimit k f enough)
     ∙ by-shape (shapeOf eventLimit f (length f)) refl
   where
     by-shape : (s : Shape) → shapeOf eventLimit f (length f) ≡ s
@@ -105,14 +109,22 @@ whole-answers f =
 
 -- ---- what is told of a beginning
 module _ (f : List ℕ) (total : ℕ) where
-  pub told-refused : (a : Answer) → shapeOf eventLimit f total ≡ Refused a → answerOfBeginning f total ≡ a
+  pub told-long : total < length f → answerOfBeginning f total ≡ WrongShape
   unfolding answerOfBeginning
-  told-refused a e = ap (λ s. answerOfContents (heldContents f s)) e
+  told-long h = rw (lt-leb (length f) total h)
 
-  pub told-formed : (header : Header) → shapeOf eventLimit f total ≡ Formed header
-      → answerOfBeginning f total ≡ answerOf (lengthsIn header) (firstItems (heldItemIn f) (header .events))
-  unfolding answerOfBeginning
-  told-formed header e = ap (λ s. answerOfContents (heldContents f s)) e
+  module _ (within : length f ≤ total) where
+    by-shape-of : (s : Shape) → shapeOf eventLimit f total ≡ s
+        → answerOfBeginning f total ≡ answerOfContents (heldContents f s)
+    unfolding answerOfBeginning
+    by-shape-of s e = rw (le-leb (length f) total within) (ap (λ s. answerOfContents (heldContents f s)) e)
+
+    pub told-refused : (a : Answer) → shapeOf eventLimit f total ≡ Refused a → answerOfBeginning f total ≡ a
+    told-refused a e = by-shape-of (Refused a) e
+
+    pub told-formed : (header : Header) → shapeOf eventLimit f total ≡ Formed header
+        → answerOfBeginning f total ≡ answerOf (lengthsIn header) (firstItems (heldItemIn f) (header .events))
+    told-formed header e = by-shape-of (Formed header) e
 
   pub told : (a : Answer) → a ≡ answerOfBeginning f total
       → ((file : List ℕ) (held : ℕ) → 12 + 28 * eventLimit ≤ held → f ≡ take held file → total ≡ length file

@@ -29,8 +29,8 @@ use Rattle.rules.proofs.Peak.{peak-most, peak-largest}
 use Rattle.rules.proofs.Next.{made-commits}
 use Rattle.rules.proofs.Accepted.{accepted-items, accepted-well-formed}
 use Rattle.judge.specs.declared.State.{State}
-use Rattle.judge.specs.Left.{placeLength, openRecords, tracking, ended, isAccepted, eventsOf, stateOf, openOf, Left, Carried}
-use Rattle.judge.specs.Keeping.{isSound, goesOn}
+use Rattle.judge.specs.AsLeft.{placeLength, openRecords, tracking, ended, isAccepted, eventsOf, stateOf, openOf, AsLeft, Carried}
+use Rattle.judge.specs.Step.{isSound, goesOn}
 use Rattle.judge.proofs.Opens.{length-open}
 
 -- ---- lists of events
@@ -73,7 +73,7 @@ pub data How (lengths : Lengths) (items : List Item) (s : State) (ranges marks :
   over : ¬ IsAccepted (answerOf lengths items)
       → s ≡ ended lengths (min (length items) (suc eventLimit)) (answerOf lengths items) → How lengths items s ranges marks
 
-pub how : {lengths : Lengths} {items : List Item} {s : State} {ranges marks : List ℕ} → Left lengths items s ranges marks
+pub how : {lengths : Lengths} {items : List Item} {s : State} {ranges marks : List ℕ} → AsLeft lengths items s ranges marks
     → How lengths items s ranges marks
 how {lengths} {items} {s} {ranges} {marks} left = by-test (isAccepted (answerOf lengths items)) refl
   where
@@ -153,7 +153,7 @@ module _ (lengths : Lengths) (es : List Event) (h : IsAccepted (answerTo lengths
   left-tracking : (s : State) (ranges marks ranges′ marks′ : List ℕ)
       → placeLength ≤ length ranges → placeLength ≤ length marks → s ≡ tracking lengths es
       → ranges′ ≡ placed rangeWords (openAt es) ranges → marks′ ≡ placed markWords (openAt es) marks
-      → Left lengths (map Decoded es) s ranges′ marks′
+      → AsLeft lengths (map Decoded es) s ranges′ marks′
   left-tracking s ranges marks ranges′ marks′ long-ranges long-marks state in-ranges in-marks = record {
     ranges-long = still-long rangeWords four-ranges es ranges ranges′ few long-ranges in-ranges;
     marks-long = still-long markWords four-marks es marks marks′ few long-marks in-marks;
@@ -178,7 +178,7 @@ carried-passed lengths es e s′ ranges marks ranges′ marks′ long-ranges lon
     ap (openOf lengths) (sym items) ∙ open-is lengths longer h in
     record {
       left =
-          subst (λ l. Left lengths l s′ ranges′ marks′) items
+          subst (λ l. AsLeft lengths l s′ ranges′ marks′) items
           (left-tracking lengths longer h s′ ranges marks ranges′ marks′ long-ranges long-marks state in-ranges in-marks);
       ranges-after = in-ranges ∙ sym (ap (λ rs. placed rangeWords rs ranges) opens);
       marks-after = in-marks ∙ sym (ap (λ rs. placed markWords rs marks) opens);

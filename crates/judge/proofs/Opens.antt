@@ -39,8 +39,9 @@ use Rattle.rules.specs.Faults.{Lengths}
 use Rattle.rules.proofs.Counting.{makes, commits, commits-up}
 use Rattle.rules.proofs.Prefix.{agree-append}
 use Rattle.rules.proofs.Next.{made-commits, closesNow, commits-old, commits-next, closed-next, open-next, open-new, clashes-next, peak-next}
-use Rattle.judge.specs.Left.{madeBy, recordIn, recordOf, openRecords, tracking}
-use Rattle.judge.specs.Keeping.{passedTo, clashIn, recordsAfter, madeAfter}
+use Rattle.judge.specs.AsLeft.{madeBy, recordIn, recordOf, openRecords, tracking}
+use Rattle.judge.specs.Step.{passedTo}
+use Rattle.judge.proofs.Acting.{clashIn, recordsAfter, madeAfter}
 use Rattle.judge.proofs.Touching.{touchIn, clash-collide, no-touch}
 
 -- ---- groups made

@@ -9,8 +9,8 @@ use Rattle.answer.specs.declared.Answer.the-variants.{WrongShape, TooManyEvents
 use Rattle.answer.specs.Table.{eventLimit}
 use Rattle.rules.specs.Theorems.{codeOf}
 use Rattle.judge.specs.declared.State.{State}
-use Rattle.judge.specs.Left.{placeLength, ended}
-use Rattle.judge.specs.Keeping.{isSound, goesOn, lengthsIn, counted}
+use Rattle.judge.specs.AsLeft.{placeLength, ended}
+use Rattle.judge.specs.Step.{isSound, goesOn, lengthsOf, counted}
 
 -- ---- The numbers of a sound state.
 pub record Bounded (s : State) : Type 0 where
@@ -69,15 +69,15 @@ going s ranges marks h =
 
 -- ---- What is counted, and the answer afterwards.
 module _ (s : State) where
-  pub counted-past : eventLimit ≤ s .events → counted s ≡ ended (lengthsIn s) (suc eventLimit) TooManyEvents
+  pub counted-past : eventLimit ≤ s .events → counted s ≡ ended (lengthsOf s) (suc eventLimit) TooManyEvents
   unfolding counted
   counted-past h = rw (le-ltb (s .events) eventLimit h)
 
   module _ (few : s .events < eventLimit) where
-    pub counted-odd : codeOf (s .refusal) ≡ 0 → counted s ≡ ended (lengthsIn s) (s .events + 1) WrongShape
+    pub counted-odd : codeOf (s .refusal) ≡ 0 → counted s ≡ ended (lengthsOf s) (s .events + 1) WrongShape
     unfolding counted
     counted-odd h = rw (lt-ltb (s .events) eventLimit few, eq-eqb (codeOf (s .refusal)) 0 h)
 
-    pub counted-kept : ¬ (codeOf (s .refusal) ≡ 0) → counted s ≡ ended (lengthsIn s) (s .events + 1) (s .refusal)
+    pub counted-kept : ¬ (codeOf (s .refusal) ≡ 0) → counted s ≡ ended (lengthsOf s) (s .events + 1) (s .refusal)
     unfolding counted
     counted-kept h = rw (lt-ltb (s .events) eventLimit few, ne-eqb (codeOf (s .refusal)) 0 h)

@@ -2,8 +2,8 @@
 -- Assumes nothing.
 use Prim.Native.Nat.{ℕ, suc, _≤_, min}
 use native.Mathlib.Omega.{arith}
-use mathlib.Core.Path.{_≡_, refl, sym, ap, _∙_}
-use mathlib.Core.Bool.{Bool, true, false, cond, _&&_}
+use mathlib.Core.Path.{_≡_, refl, sym, ap, subst, _∙_}
+use mathlib.Core.Bool.{Bool, true, false, cond}
 use mathlib.Core.List.{List, []}
 use lib.Dec.{leb}
 use lib.ListN.{length}
@@ -11,7 +11,7 @@ use borrow.Author.Tests.{le-leb, ne-eqb}
 use Rattle.answer.proofs.Both.{both}
 use Rattle.answer.proofs.Given.{fits-given}
 use Rattle.answer.specs.declared.Answer.{Answer}
-use Rattle.answer.specs.declared.Answer.the-variants.{Accepted, WrongShape, WrongMemoryLength}
+use Rattle.answer.specs.declared.Answer.the-variants.{Accepted, WrongShape}
 use Rattle.answer.specs.Numbers.{numbersOf}
 use Rattle.answer.specs.Table.{eventLimit, fitNamed, fit}
 use Rattle.answer.specs.Theorems.{Given}
@@ -24,33 +24,42 @@ use Rattle.rules.specs.Answers.{judged, answerOf}
 use Rattle.rules.specs.Theorems.{codeOf}
 use Rattle.rules.proofs.Files.{list-fits}
 use Rattle.judge.specs.declared.State.{State}
-use Rattle.judge.specs.Left.{placeLength, openRecords, tracking, ended, stateOf, openOf, Left}
-use Rattle.judge.specs.Keeping.{isSound, answerIn}
+use Rattle.judge.specs.AsLeft.{placeLength, openRecords, tracking, ended, stateOf, openOf, AsLeft}
+use Rattle.judge.specs.Step.{isRefusal, isSound, opened, answerIn}
 use Rattle.judge.proofs.Sound.{bounded}
 use Rattle.judge.proofs.Answers.{some-verdict, answer-is}
 use Rattle.judge.proofs.Leaving.{How, passing, over, how, sound-tracking}
 
 -- ---- the opening state
 module _ (lengths : Lengths) where
-  by-lengths : (t : Bool) → areMemoryLengths lengths ≡ t
-      → (stateOf lengths [] ≡ cond t (tracking lengths []) (ended lengths 0 WrongMemoryLength)) × (openOf lengths [] ≡ [])
-  unfolding stateOf openOf answerOf judged openRecords
+  by-lengths : (t : Bool) → areMemoryLengths lengths ≡ t → (opened lengths ≡ stateOf lengths []) × (openOf lengths [] ≡ [])
+  unfolding opened stateOf openOf answerOf judged openRecords
   by-lengths true h = (rw h, rw h)
   by-lengths false h = (rw h, rw h)
 
-  module _ (ranges marks : List ℕ) (long-ranges : placeLength ≤ length ranges) (long-marks : placeLength ≤ length marks) where
-    pub opened : (t : Bool) (s : State) → areMemoryLengths lengths ≡ t
-        → s ≡ cond t (tracking lengths []) (ended lengths 0 WrongMemoryLength) → Left lengths [] s ranges marks
-    unfolding placed
-    opened t s h e =
-        let (state, nothing) = by-lengths t h in
-        record {
-          ranges-long = long-ranges;
-          marks-long = long-marks;
-          state-is = e ∙ sym state;
-          ranges-hold = sym (ap (λ rs. placed rangeWords rs ranges) nothing);
-          marks-hold = sym (ap (λ rs. placed markWords rs marks) nothing);
-        }
+  pub opening-left : (ranges marks : List ℕ) → placeLength ≤ length ranges → placeLength ≤ length marks
+      → AsLeft lengths [] (opened lengths) ranges marks
+  unfolding placed
+  opening-left ranges marks long-ranges long-marks =
+      let (state, nothing) = by-lengths (areMemoryLengths lengths) refl in
+      record {
+        ranges-long = long-ranges;
+        marks-long = long-marks;
+        state-is = state;
+        ranges-hold = sym (ap (λ rs. placed rangeWords rs ranges) nothing);
+        marks-hold = sym (ap (λ rs. placed markWords rs marks) nothing);
+      }
+
+  -- so a state that is this one is all that is promised of it
+  pub opening-promised : (s : State) → s ≡ opened lengths
+      → (s ≡ opened lengths)
+      × ((ranges marks : List ℕ) → placeLength ≤ length ranges → placeLength ≤ length marks
+      → AsLeft lengths [] s ranges marks)
+  opening-promised s e = (
+    e,
+    λ ranges marks long-ranges long-marks.
+        subst (λ t. AsLeft lengths [] t ranges marks) (sym e) (opening-left ranges marks long-ranges long-marks),
+  )
 
 -- ---- the answer of a state
 module _ (s : State) where
@@ -61,7 +70,7 @@ module _ (s : State) where
       let bounds = bounded s h in
       rw (le-leb (s .events) eventLimit (bounds .events-limited), le-leb (s .peak) (s .events) (bounds .peak-most))
 
-  told-fits : (t sound kept : Bool) → isSound s ≡ sound → (leb 2 (codeOf (s .refusal)) && fit (numbersOf (s .refusal))) ≡ kept
+  told-fits : (t sound kept : Bool) → isSound s ≡ sound → isRefusal (s .refusal) ≡ kept
       → fit (numbersOf (cond t (cond sound (Accepted (s .events) (s .peak)) WrongShape) (cond kept (s .refusal) WrongShape)))
       ≡ true
   unfolding fit fitNamed
@@ -73,7 +82,7 @@ module _ (s : State) where
   fits : fit (numbersOf (answerIn s)) ≡ true
   unfolding answerIn
   fits =
-      told-fits (isZero (codeOf (s .refusal))) (isSound s) (leb 2 (codeOf (s .refusal)) && fit (numbersOf (s .refusal))) refl refl
+      told-fits (isZero (codeOf (s .refusal))) (isSound s) (isRefusal (s .refusal)) refl refl
 
   -- while nothing is refused ..
   module _ (none-refused : codeOf (s .refusal) ≡ 0) where
@@ -87,16 +96,16 @@ module _ (s : State) where
 
   -- .. and after a refusal
   module _ (some-refused : ¬ (codeOf (s .refusal) ≡ 0)) where
-    pub told-refusal : (leb 2 (codeOf (s .refusal)) && fit (numbersOf (s .refusal))) ≡ true → answerIn s ≡ s .refusal
+    pub told-refusal : isRefusal (s .refusal) ≡ true → answerIn s ≡ s .refusal
     unfolding answerIn
     told-refusal h = rw (ne-eqb (codeOf (s .refusal)) 0 some-refused, h)
 
-    pub told-none : (leb 2 (codeOf (s .refusal)) && fit (numbersOf (s .refusal))) ≡ false → answerIn s ≡ WrongShape
+    pub told-none : isRefusal (s .refusal) ≡ false → answerIn s ≡ WrongShape
     unfolding answerIn
     told-none h = rw (ne-eqb (codeOf (s .refusal)) 0 some-refused, h)
 
 -- of the list, where the judge left it so
-told-left : {lengths : Lengths} {items : List Item} {s : State} {ranges marks : List ℕ} → Left lengths items s ranges marks
+told-left : {lengths : Lengths} {items : List Item} {s : State} {ranges marks : List ℕ} → AsLeft lengths items s ranges marks
     → answerIn s ≡ answerOf lengths items
 told-left {lengths} {items} {s} {ranges} {marks} left = by-way (how left)
   where
@@ -112,7 +121,7 @@ told-left {lengths} {items} {s} {ranges} {marks} left = by-way (how left)
 
 -- so an answer that is the state's is all that is promised of it
 pub told : (s : State) (a : Answer) → a ≡ answerIn s
-    → ((lengths : Lengths) (items : List Item) (ranges marks : List ℕ) → Left lengths items s ranges marks
+    → ((lengths : Lengths) (items : List Item) (ranges marks : List ℕ) → AsLeft lengths items s ranges marks
     → a ≡ answerOf lengths items)
     × ((a ≡ answerIn s) × Given a)
 told s a e = (λ lengths items ranges marks left. e ∙ told-left left, (e, fits-given a (ap (λ b. fit (numbersOf b)) e ∙ fits s)))

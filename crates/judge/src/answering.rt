@@ -12,13 +12,14 @@ ghost use Rattle.answer.specs.Theorems.{Given};
 ghost use Rattle.decoder.specs.declared.Item.{Item};
 ghost use Rattle.rules.specs.Faults.{Lengths};
 ghost use Rattle.rules.specs.Answers.{answerOf};
-ghost use Rattle.judge.specs.Keeping.{isSound, answerIn};
-ghost use Rattle.judge.specs.Left.{placeLength, Left};
+ghost use Rattle.judge.specs.AsLeft.{placeLength, AsLeft};
+ghost use Rattle.judge.specs.Step.{isNoVerdict, isRefusal, isSound, opened, answerIn};
 
 impl State {
     // The state before the first event of a list under these memory lengths. Places of any contents go with it.
     pub fn opening(global: u32, shared: u32) -> State
-        ensures { λ r. ⌜ ((ranges marks : List ℕ) → placeLength ≤ length ranges → placeLength ≤ length marks → Left (record { global = global; shared = shared }) [] r ranges marks) ⌝ }
+        ensures { λ r. ⌜ r ≡ opened (record { global = global; shared = shared }) ⌝ }
+        ensures { λ r. ⌜ ((ranges marks : List ℕ) → placeLength ≤ length ranges → placeLength ≤ length marks → AsLeft (record { global = global; shared = shared }) [] r ranges marks) ⌝ }
     {
         let refusal = if (global <= MEMORY_LIMIT) & (shared <= MEMORY_LIMIT) {
             Answer::NoVerdict
@@ -39,14 +40,13 @@ impl State {
     // The answer of the list so far, taken as a whole list. A state that no judge leaves is refused as a wrong shape,
     // where that shows.
     pub fn answer(self) -> Answer
-        ensures { λ r. ⌜ ((lengths : Lengths) (items : List Item) (ranges marks : List ℕ) → Left lengths items self ranges marks → r ≡ answerOf lengths items) ⌝ }
+        ensures { λ r. ⌜ ((lengths : Lengths) (items : List Item) (ranges marks : List ℕ) → AsLeft lengths items self ranges marks → r ≡ answerOf lengths items) ⌝ }
         ensures { λ r. ⌜ r ≡ answerIn self ⌝ }
         ensures { λ r. ⌜ Given r ⌝ }
     {
         let refusal = self.refusal;
-        let numbers = refusal.numbers();
-        if numbers.code == 0 {
-            if self.sound() {
+        if is_no_verdict(refusal) {
+            if self.is_sound() {
                 Answer::Accepted {
                     events: self.events,
                     peak: self.peak,
@@ -54,15 +54,15 @@ impl State {
             } else {
                 Answer::WrongShape
             }
-        } else if (2 <= numbers.code) & numbers.fit() {
+        } else if is_refusal(refusal) {
             refusal
         } else {
             Answer::WrongShape
         }
     }
 
-    // Whether the numbers are such as a judge leaves that has refused nothing.
-    pub(crate) fn sound(self) -> bool
+    // Whether the numbers keep the bounds that they keep where nothing is refused.
+    pub(crate) fn is_sound(self) -> bool
         ensures { λ r. ⌜ r ≡ isSound self ⌝ }
     {
         (self.unclosed <= self.peak)
@@ -73,4 +73,18 @@ impl State {
             & (self.global <= MEMORY_LIMIT)
             & (self.shared <= MEMORY_LIMIT)
     }
+}
+
+pub(crate) fn is_no_verdict(answer: Answer) -> bool
+    ensures { λ r. ⌜ r ≡ isNoVerdict answer ⌝ }
+{
+    answer.numbers().code == 0
+}
+
+// Whether it is a refusal that a sheet can hold.
+fn is_refusal(answer: Answer) -> bool
+    ensures { λ r. ⌜ r ≡ isRefusal answer ⌝ }
+{
+    let numbers = answer.numbers();
+    (2 <= numbers.code) & numbers.fit()
 }

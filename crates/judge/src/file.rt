@@ -12,7 +12,7 @@ ghost use Rattle.answer.specs.Table.{eventLimit};
 ghost use Rattle.trace.specs.File.{eventsIn, entryAt, firstItems};
 ghost use Rattle.trace.specs.Beginning.{heldItemIn};
 ghost use Rattle.rules.specs.Answers.{answerOf, lengthsIn, answerOfFile};
-ghost use Rattle.judge.specs.Left.{placeLength};
+ghost use Rattle.judge.specs.AsLeft.{placeLength};
 ghost use Rattle.judge.specs.Beginnings.{answerOfBeginning};
 
 // The answer of a file.
@@ -22,11 +22,15 @@ pub fn judge(file: &[u8]) -> Answer
     judge_beginning(file, file.len())
 }
 
-// The answer of a file of `total` bytes, by its first bytes: `trace::ENOUGH` of them are enough.
+// The answer of a file of `total` bytes, by its first bytes: `trace::ENOUGH` of them are enough. No file has more first
+// bytes than bytes.
 pub fn judge_beginning(beginning: &[u8], total: usize) -> Answer
     ensures { λ r. ⌜ ((file : List ℕ) (held : ℕ) → 12 + 28 * eventLimit ≤ held → now (beginning .entry) ≡ take held file → total ≡ length file → r ≡ answerOfFile file) ⌝ }
     ensures { λ r. ⌜ r ≡ answerOfBeginning (now (beginning .entry)) total ⌝ }
 {
+    if total < beginning.len() {
+        return Answer::WrongShape;
+    }
     match trace::shape_of(beginning, total) {
         Shape::Refused(answer) => answer,
         Shape::Formed(header) => {

@@ -1,6 +1,7 @@
 // One event more.
 use crate::PLACE_LENGTH;
 use crate::State;
+use crate::answering::is_no_verdict;
 use answer::Answer;
 use answer::EVENT_LIMIT;
 use checks::fault_of;
@@ -12,17 +13,15 @@ use parts::Made;
 use parts::Part;
 ghost use mathlib.Core.Path.{_≡_};
 ghost use mathlib.Core.Bool.{true};
-ghost use mathlib.Core.List.{List};
 ghost use Prim.Native.Nat.{_<_, max};
 ghost use lib.ListN.{length};
 ghost use Rattle.answer.specs.declared.Answer.the-variants.{Clash};
 ghost use Rattle.answer.specs.Table.{eventLimit};
 ghost use Rattle.decoder.specs.declared.Item.the-variants.{Decoded};
 ghost use Rattle.decoder.specs.Kinds.{decodeOf};
-ghost use Rattle.operations.specs.declared.Record.{Record};
 ghost use Rattle.parts.specs.declared.Part.the-variants.{Access, Operation};
-ghost use Rattle.judge.specs.Left.{ended};
-ghost use Rattle.judge.specs.Keeping.{goesOn, lengthsIn, counted, Stepped, Holds, refusedBy, passedTo, Acted};
+ghost use Rattle.judge.specs.AsLeft.{ended};
+ghost use Rattle.judge.specs.Step.{goesOn, lengthsOf, counted, refusedBy, passedTo, leaving, leftBy, Stepped};
 
 impl State {
     // The next state, after an event.
@@ -51,11 +50,11 @@ impl State {
             return self.refused(item.refusal(self.events));
         };
         let fault = fault_of(event, self.events, self.global, self.shared);
-        if fault.numbers().code != 0 {
+        if !is_no_verdict(fault) {
             return self.refused(fault);
         }
         let part = parts::part_of(self.events, self.made, event);
-        self.act(part, ranges, marks)
+        self.after(part, ranges, marks)
     }
 
     // Whether the next event is judged: nothing is refused, the limit is not reached, and nothing shows that the state
@@ -64,14 +63,14 @@ impl State {
         ensures { λ r. ⌜ r ≡ goesOn self ranges marks ⌝ }
     {
         let refusal = self.refusal;
-        (refusal.numbers().code == 0)
-            & self.sound()
+        is_no_verdict(refusal)
+            & self.is_sound()
             & (self.events < EVENT_LIMIT)
             & (PLACE_LENGTH <= ranges)
             & (PLACE_LENGTH <= marks)
     }
 
-    // The next state where the event is not judged. A list past the limit is refused as such, whatever stood before.
+    // The state after an event that is not judged. A list past the limit is refused as such, whatever stood before.
     fn counted(self) -> State
         ensures { λ r. ⌜ r ≡ counted self ⌝ }
     {
@@ -79,15 +78,15 @@ impl State {
             return self.ended(EVENT_LIMIT + 1, Answer::TooManyEvents);
         }
         let refusal = self.refusal;
-        if refusal.numbers().code == 0 {
+        if is_no_verdict(refusal) {
             return self.ended(self.events + 1, Answer::WrongShape);
         }
         self.ended(self.events + 1, refusal)
     }
 
-    // The state after a refusal.
+    // The state after a refusal: nothing is kept of the events but their number.
     fn ended(self, events: u32, refusal: Answer) -> State
-        ensures { λ r. ⌜ r ≡ ended (lengthsIn self) events refusal ⌝ }
+        ensures { λ r. ⌜ r ≡ ended (lengthsOf self) events refusal ⌝ }
     {
         State {
             events,
@@ -98,6 +97,14 @@ impl State {
             shared: self.shared,
             refusal,
         }
+    }
+
+    // The state after an event that is refused.
+    fn refused(self, refusal: Answer) -> State
+        requires { ⌜ self .events < eventLimit ⌝ }
+        ensures { λ r. ⌜ r ≡ refusedBy self refusal ⌝ }
+    {
+        self.ended(self.events + 1, refusal)
     }
 
     // The state after an event that passes, with so many operations open and these groups made.
@@ -117,13 +124,14 @@ impl State {
         }
     }
 
-    fn act(self, part: Part, ranges: &mut [u32], marks: &mut [u32]) -> State
+    // The state after an event without fault. A wait compacts the table in place.
+    fn after(self, part: Part, ranges: &mut [u32], marks: &mut [u32]) -> State
         requires { ⌜ goesOn self (length (now ranges)) (length (now marks)) ≡ true ⌝ }
-        ensures { λ r. ⌜ ((rs : List Record) → Holds rs self (now (ranges .entry)) (now (marks .entry)) → Acted part rs self (now (ranges .entry)) (now (marks .entry)) r (now (ranges .exit)) (now (marks .exit))) ⌝ }
+        ensures { λ r. ⌜ leaving r (now (ranges .exit)) (now (marks .exit)) ≡ leftBy part self (now (ranges .entry)) (now (marks .entry)) ⌝ }
     {
         match part {
-            Part::Access(record) => self.access(record, ranges, marks),
-            Part::Operation(record) => self.operation(record, ranges, marks),
+            Part::Access(access) => self.after_access(access, ranges, marks),
+            Part::Operation(operation) => self.after_operation(operation, ranges, marks),
             Part::Commit(made) => self.passed(self.unclosed, made),
             Part::Wait(made, wait) => {
                 let unclosed = operations::close(ranges, marks, self.unclosed, wait);
@@ -132,22 +140,24 @@ impl State {
         }
     }
 
-    fn access(self, access: Record, ranges: &[u32], marks: &[u32]) -> State
+    // An access is compared with the open operations alone.
+    fn after_access(self, access: Record, ranges: &[u32], marks: &[u32]) -> State
         requires { ⌜ goesOn self (length (now ranges)) (length (now marks)) ≡ true ⌝ }
-        ensures { λ r. ⌜ ((rs : List Record) → Holds rs self (now (ranges .entry)) (now (marks .entry)) → Acted (Access access) rs self (now (ranges .entry)) (now (marks .entry)) r (now (ranges .entry)) (now (marks .entry))) ⌝ }
+        ensures { λ r. ⌜ leaving r (now (ranges .entry)) (now (marks .entry)) ≡ leftBy (Access access) self (now (ranges .entry)) (now (marks .entry)) ⌝ }
     {
         match operations::first_clash(ranges, marks, self.unclosed, access) {
-            Partner::Event(partner) => self.clash(partner),
+            Partner::Event(partner) => self.clashed(partner),
             Partner::Nobody => self.passed(self.unclosed, self.made),
         }
     }
 
-    fn operation(self, operation: Record, ranges: &mut [u32], marks: &mut [u32]) -> State
+    // So is an operation, and then its record is put behind theirs.
+    fn after_operation(self, operation: Record, ranges: &mut [u32], marks: &mut [u32]) -> State
         requires { ⌜ goesOn self (length (now ranges)) (length (now marks)) ≡ true ⌝ }
-        ensures { λ r. ⌜ ((rs : List Record) → Holds rs self (now (ranges .entry)) (now (marks .entry)) → Acted (Operation operation) rs self (now (ranges .entry)) (now (marks .entry)) r (now (ranges .exit)) (now (marks .exit))) ⌝ }
+        ensures { λ r. ⌜ leaving r (now (ranges .exit)) (now (marks .exit)) ≡ leftBy (Operation operation) self (now (ranges .entry)) (now (marks .entry)) ⌝ }
     {
         match operations::first_clash(ranges, marks, self.unclosed, operation) {
-            Partner::Event(partner) => self.clash(partner),
+            Partner::Event(partner) => self.clashed(partner),
             Partner::Nobody => {
                 operations::put(ranges, marks, self.unclosed, operation);
                 self.passed(self.unclosed + 1, self.made)
@@ -155,14 +165,8 @@ impl State {
         }
     }
 
-    fn refused(self, refusal: Answer) -> State
-        requires { ⌜ self .events < eventLimit ⌝ }
-        ensures { λ r. ⌜ r ≡ refusedBy self refusal ⌝ }
-    {
-        self.ended(self.events + 1, refusal)
-    }
-
-    fn clash(self, partner: u32) -> State
+    // The state after an event that clashes with this earlier one.
+    fn clashed(self, partner: u32) -> State
         requires { ⌜ self .events < eventLimit ⌝ }
         ensures { λ r. ⌜ r ≡ refusedBy self (Clash (self .events) partner) ⌝ }
     {

@@ -1,52 +1,53 @@
 -- `State::answer` meets its contract.
 -- Assumes nothing.
-use mathlib.Core.Path.{sym, ap, _∙_}
-use mathlib.Core.Bool.{_&&_}
-use lib.Dec.{leb}
-use Rattle.answer.specs.Table.{fit}
+use mathlib.Core.Path.{sym, _∙_}
+use borrow.Author.Tests.{eqb-true, eqb-false}
 use Rattle.judge.proofs.Telling.{told-sound, told-odd, told-refusal, told-none, told}
 use borrow.Author.Needs.{needs}
 use Rattle.judge.proofs.State.answer.Statement.{statement}
 use Rattle.judge.proofs.State.answer.Tie as tie
 
-numbers-requires : tie.Need-numbers-requires
-numbers-requires c κs = search needs
+is-no-verdict-requires : tie.Need-is-no-verdict-requires
+is-no-verdict-requires c κs = search needs
 
-sound-requires : tie.Need-sound-requires
-sound-requires c κs = search needs
+is-sound-requires : tie.Need-is-sound-requires
+is-sound-requires c κs = search needs
 
-fit-requires : tie.Need-fit-requires
-fit-requires c κs = search needs
+is-refusal-requires : tie.Need-is-refusal-requires
+is-refusal-requires c κs = search needs
 
 returns : tie.Need-returns
 returns c =
-    let self = c .before .before .before .before .before .args .self in
-    let none-refused = ap (λ n. n .code) (sym (c .before .before .before .before .numbers .ensures)) ∙ c .before .before .if1 .taken in
-    told self _ (sym (told-sound self none-refused (sym (c .before .sound .ensures) ∙ c .if2 .taken)))
+    let self = c .before .before .before .before .args .self in
+    let none-refused = eqb-true _ 0 (sym (c .before .before .before .is-no-verdict .ensures) ∙ c .before .before .if1 .taken) in
+    told self _ (sym (told-sound self none-refused (sym (c .before .is-sound .ensures) ∙ c .if2 .taken)))
 
 returns-2 : tie.Need-returns-2
 returns-2 c =
-    let self = c .before .before .before .before .before .args .self in
-    let none-refused = ap (λ n. n .code) (sym (c .before .before .before .before .numbers .ensures)) ∙ c .before .before .if1 .taken in
-    told self _ (sym (told-odd self none-refused (sym (c .before .sound .ensures) ∙ c .if2 .left)))
+    let self = c .before .before .before .before .args .self in
+    let none-refused = eqb-true _ 0 (sym (c .before .before .before .is-no-verdict .ensures) ∙ c .before .before .if1 .taken) in
+    told self _ (sym (told-odd self none-refused (sym (c .before .is-sound .ensures) ∙ c .if2 .left)))
 
 returns-3 : tie.Need-returns-3
 returns-3 c =
-    let self = c .before .before .before .before .before .before .args .self in
-    let numbers = c .before .before .before .before .before .numbers .ensures in
-    let fits = c .before .fit .ensures ∙ ap fit numbers in
-    let tested = sym (λ i. leb 2 (numbers i .code) && fits i) ∙ c .if3 .taken in
-    told self _ (sym (told-refusal self (λ z. c .before .before .before .if1 .left (ap (λ n. n .code) numbers ∙ z)) tested))
+    let self = c .before .before .before .before .args .self in
+    let some-refused = eqb-false _ 0 (sym (c .before .before .before .is-no-verdict .ensures) ∙ c .before .before .if1 .left) in
+    told self _ (sym (told-refusal self some-refused (sym (c .before .is-refusal .ensures) ∙ c .if3 .taken)))
 
 returns-4 : tie.Need-returns-4
 returns-4 c =
-    let self = c .before .before .before .before .before .before .args .self in
-    let numbers = c .before .before .before .before .before .numbers .ensures in
-    let fits = c .before .fit .ensures ∙ ap fit numbers in
-    let tested = sym (λ i. leb 2 (numbers i .code) && fits i) ∙ c .if3 .left in
-    told self _ (sym (told-none self (λ z. c .before .before .before .if1 .left (ap (λ n. n .code) numbers ∙ z)) tested))
+    let self = c .before .before .before .before .args .self in
+    let some-refused = eqb-false _ 0 (sym (c .before .before .before .is-no-verdict .ensures) ∙ c .before .before .if1 .left) in
+    told self _ (sym (told-none self some-refused (sym (c .before .is-refusal .ensures) ∙ c .if3 .left)))
 
 pub answer-spec : {M : Type 1} → statement M
 answer-spec =
     tie.close
-    (tie.spec numbers-requires sound-requires fit-requires returns returns-2 returns-3 returns-4)
+    (tie.spec
+    is-no-verdict-requires
+    is-sound-requires
+    is-refusal-requires
+    returns
+    returns-2
+    returns-3
+    returns-4)

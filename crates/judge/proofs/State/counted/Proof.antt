@@ -1,7 +1,8 @@
 -- `State::counted` meets its contract.
 -- Assumes nothing.
 use native.Mathlib.Omega.{arith}
-use mathlib.Core.Path.{sym, ap, _∙_}
+use mathlib.Core.Path.{sym, _∙_}
+use borrow.Author.Tests.{eqb-true, eqb-false}
 use Rattle.judge.proofs.Sound.{counted-past, counted-odd, counted-kept}
 use borrow.Author.Needs.{needs}
 use Rattle.judge.proofs.State.counted.Statement.{statement}
@@ -16,8 +17,8 @@ ended-requires c κs = search needs
 returns : tie.Need-returns
 returns c = c .ended .ensures ∙ sym (counted-past _ (c .before .if1 .taken))
 
-numbers-requires : tie.Need-numbers-requires
-numbers-requires c κs = search needs
+is-no-verdict-requires : tie.Need-is-no-verdict-requires
+is-no-verdict-requires c κs = search needs
 
 add-ended-2 : tie.Need-add-ended-2
 add-ended-2 c = search needs
@@ -26,7 +27,9 @@ ended-requires-2 : tie.Need-ended-requires-2
 ended-requires-2 c κs = search needs
 
 returns-2 : tie.Need-returns-2
-returns-2 c = c .ended2 .ensures ∙ sym (counted-odd _ (omega arith) (ap (λ n. n .code) (sym (c .before .before .before .before .numbers .ensures)) ∙ c .before .before .if2 .taken))
+returns-2 c =
+    let none-refused = eqb-true _ 0 (sym (c .before .before .before .is-no-verdict .ensures) ∙ c .before .before .if2 .taken) in
+    c .ended2 .ensures ∙ sym (counted-odd _ (omega arith) none-refused)
 
 add-ended-3 : tie.Need-add-ended-3
 add-ended-3 c = search needs
@@ -36,8 +39,8 @@ ended-requires-3 c κs = search needs
 
 returns-3 : tie.Need-returns-3
 returns-3 c =
-    c .ended3 .ensures
-    ∙ sym (counted-kept _ (omega arith) (λ e. c .before .before .if2 .left (ap (λ n. n .code) (c .before .before .before .before .numbers .ensures) ∙ e)))
+    let some-refused = eqb-false _ 0 (sym (c .before .before .before .is-no-verdict .ensures) ∙ c .before .before .if2 .left) in
+    c .ended3 .ensures ∙ sym (counted-kept _ (omega arith) some-refused)
 
 pub counted-spec : {M : Type 1} → statement M
 counted-spec =
@@ -46,7 +49,7 @@ counted-spec =
     add-ended
     ended-requires
     returns
-    numbers-requires
+    is-no-verdict-requires
     add-ended-2
     ended-requires-2
     returns-2

@@ -15,7 +15,7 @@ use Rattle.trace.specs.File.{entryAt, bodyLengths, bodyStart, firstItems}
 use Rattle.trace.specs.Beginning.{heldItemIn}
 use Rattle.trace.proofs.Entries.{more-lengths, whole-entry}
 use Rattle.rules.specs.Answers.{answerOf, lengthsIn}
-use Rattle.judge.specs.Left.{Left}
+use Rattle.judge.specs.AsLeft.{AsLeft}
 use Rattle.judge.proofs.file.judge_items.Statement.{statement}
 use Rattle.judge.proofs.file.judge_items.Tie as tie
 
@@ -27,7 +27,7 @@ next-items item i = ap (firstItems item) (add-one i)
 abbrev Inv-loop : tie.InvT-loop
 Inv-loop beginning header ranges₀ marks₀ state₀ start₀ event₀ ranges marks state start event =
     (event ≤ header .events) × (start ≡ bodyStart beginning event) × (start ≤ entryAt (header .events) + 4294967296 * event)
-    × Left (lengthsIn header) (firstItems (heldItemIn beginning) event) state ranges marks
+    × AsLeft (lengthsIn header) (firstItems (heldItemIn beginning) event) state ranges marks
     × (length ranges ≡ length ranges₀) × (length marks ≡ length marks₀)
 
 abbrev μ-loop : tie.MeasureT-loop
@@ -44,7 +44,7 @@ unfolding bodyLengths firstItems
 loop-holds c =
     let pre = c .before .before .before .before .before .pre in
     let places = pre .1 .1 .1 in
-    (omega arith, omega arith, omega arith, c .before .opening .ensures _ _ (places .0) (places .1), refl, refl)
+    (omega arith, omega arith, omega arith, c .before .opening .ensures .1 _ _ (places .0) (places .1), refl, refl)
 
 entry-of-requires : tie.Need-entry-of-requires Inv-loop μ-loop
 entry-of-requires c κs = tt

@@ -97,7 +97,7 @@ openOf lengths items =
     (openRecords (eventsOf items) (length (eventsOf items)) (length (eventsOf items)))
     []
 
-pub record Left (lengths : Lengths) (items : List Item) (state : State) (ranges marks : List ℕ) : Type 0 where
+pub record AsLeft (lengths : Lengths) (items : List Item) (state : State) (ranges marks : List ℕ) : Type 0 where
   pub ranges-long : placeLength ≤ length ranges
   pub marks-long : placeLength ≤ length marks
   pub state-is : state ≡ stateOf lengths items
@@ -108,6 +108,6 @@ pub record Left (lengths : Lengths) (items : List Item) (state : State) (ranges 
 -- they were.
 pub record Carried (lengths : Lengths) (items : List Item) (item : Item) (ranges marks : List ℕ)
     (state′ : State) (ranges′ marks′ : List ℕ) : Type 0 where
-  pub left : Left lengths (items ++ item ∷ []) state′ ranges′ marks′
+  pub left : AsLeft lengths (items ++ item ∷ []) state′ ranges′ marks′
   pub ranges-after : ranges′ ≡ placed rangeWords (openOf lengths (items ++ item ∷ [])) ranges
   pub marks-after : marks′ ≡ placed markWords (openOf lengths (items ++ item ∷ [])) marks
