@@ -68,7 +68,7 @@ pub record Acted (p : Part) (rs : List Record) (s : State) (ranges marks : List 
   pub marks-after : after .marks ≡ placed markWords (ifClash (clashIn p rs) (λ i. rs) (recordsAfter p rs)) marks
 
 -- The first records of the places are those that they hold.
-held-records : {rs : List Record} {s : State} {ranges marks : List ℕ} → Holds rs s ranges marks
+pub held-records : {rs : List Record} {s : State} {ranges marks : List ℕ} → Holds rs s ranges marks
     → records (s .unclosed) ranges marks ≡ rs
 held-records {rs} {ranges = ranges} {marks = marks} h =
     (λ i. records (h .all i) (h .in-ranges i) (h .in-marks i)) ∙ records-placed rs ranges marks

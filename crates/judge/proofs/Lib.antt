@@ -8,3 +8,5 @@ pub mod Leaving
 pub mod Carrying
 pub mod Telling
 pub mod Beginnings
+pub mod Places
+pub mod Theorems

@@ -76,16 +76,16 @@ abbrev madeIn : Chain → Made → ℕ
 madeIn NonBulk made = made .copies
 madeIn Bulk made = made .bulk
 
-record Starts (k : ℕ) (made : Made) (e : Event) : Type 0 where
-  its : Record
+pub record Starts (k : ℕ) (made : Made) (e : Event) : Type 0 where
+  pub its : Record
   chain : Chain
-  part-is : partOf k made e ≡ part.Operation its
+  pub part-is : partOf k made e ≡ part.Operation its
   event-is : its .event ≡ k
   role-is : role chain e ≡ operation
   chain-is : chainIn (its .tag) ≡ digit chain
   commits-are : its .commits ≡ madeIn chain made
 
-starts : (k : ℕ) (made : Made) (e : Event) → isOperation e ≡ true → Starts k made e
+pub starts : (k : ℕ) (made : Made) (e : Event) → isOperation e ≡ true → Starts k made e
 starts k made (event.Load address size) h = absurd (false≢true h)
 starts k made (event.Store address size low high) h = absurd (false≢true h)
 starts k made (event.Copy dst src cpSize mode cache) h =

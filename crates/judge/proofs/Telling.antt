@@ -105,7 +105,7 @@ module _ (s : State) where
     told-none h = rw (ne-eqb (codeOf (s .refusal)) 0 some-refused, h)
 
 -- of the list, where the judge left it so
-told-left : {lengths : Lengths} {items : List Item} {s : State} {ranges marks : List ℕ} → AsLeft lengths items s ranges marks
+pub told-left : {lengths : Lengths} {items : List Item} {s : State} {ranges marks : List ℕ} → AsLeft lengths items s ranges marks
     → answerIn s ≡ answerOf lengths items
 told-left {lengths} {items} {s} {ranges} {marks} left = by-way (how left)
   where

@@ -2,3 +2,4 @@
 pub mod AsLeft
 pub mod Step
 pub mod Beginnings
+pub mod Theorems

@@ -77,11 +77,12 @@ impl State {
         if EVENT_LIMIT <= self.events {
             return self.ended(EVENT_LIMIT + 1, Answer::TooManyEvents);
         }
+        let events = self.events + 1;
         let refusal = self.refusal;
         if is_no_verdict(refusal) {
-            return self.ended(self.events + 1, Answer::WrongShape);
+            return self.ended(events, Answer::WrongShape);
         }
-        self.ended(self.events + 1, refusal)
+        self.ended(events, refusal)
     }
 
     // The state after a refusal: nothing is kept of the events but their number.

@@ -11,7 +11,7 @@ use Rattle.operations.specs.Table.{rangeWords, markWords, recordAt, reco
 
 -- ---- of either place
 module _ (words : Record → List ℕ) (four : (r : Record) → length (words r) ≡ 4) where
-  length-all : (rs : List Record) → length (allWords words rs) ≡ 4 * length rs
+  pub length-all : (rs : List Record) → length (allWords words rs) ≡ 4 * length rs
   length-all [] = refl
   length-all (r ∷ rs) = length-append (words r) (allWords words rs) ∙ omega (arith, four r, length-all rs)
 

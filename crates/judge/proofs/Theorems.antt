@@ -1,0 +1,116 @@
+-- The theorems of specs/Theorems.antt.
+-- Assumes nothing.
+use Prim.Native.Nat.{ℕ, suc, _+_}
+use native.Mathlib.Omega.{arith}
+use mathlib.Core.Path.{_≡_, refl, sym, ap, subst, _∙_}
+use mathlib.Core.Bool.{Bool, true, false, cond}
+use mathlib.Core.List.{List, [], _∷_, _++_, append-nil, append-assoc}
+use lib.Dec.{leb, ltb}
+use borrow.Author.Tests.{leb-true}
+use Rattle.answer.specs.declared.Answer.{Answer}
+use Rattle.answer.specs.declared.Answer.the-variants as answer
+use Rattle.answer.specs.Numbers.{numbersOf}
+use Rattle.answer.specs.Table.{eventLimit, fit}
+use Rattle.answer.proofs.Both.{both}
+use Rattle.decoder.specs.declared.Item.{Item}
+use Rattle.rules.specs.Faults.{Lengths}
+use Rattle.rules.specs.Theorems.{codeOf, IsAccepted}
+use Rattle.judge.specs.declared.State.{State}
+use Rattle.judge.specs.AsLeft.{ended, AsLeft}
+use Rattle.judge.specs.Step.{isNoVerdict, isRefusal, isSound, opened, answerIn, lengthsOf, counted, After, leaving, stepOf}
+use Rattle.judge.specs.Theorems.{steps, StepsAnswer, BeginningAnswers, AccessesAndCommitsChangeNone, OperationsChangeTheirRecord, RefusalsChangeNone, OneRecordEach, WordsPastStay, AnyStateAnswers, FaultsShow}
+use Rattle.judge.proofs.Beginnings.{beginning-answers}
+use Rattle.judge.proofs.Carrying.{step-carries, step-counted}
+use Rattle.judge.proofs.Places.{none-changed, one-put, refusal-unchanged, past-unchanged, one-each}
+use Rattle.judge.proofs.Telling.{opening-left, told, told-left}
+
+-- ---- the answers
+-- steps carry on what the judge left, item by item
+steps-left : {lengths : Lengths} (items before : List Item) (after : After)
+    → AsLeft lengths before (after .state) (after .ranges) (after .marks)
+    → AsLeft lengths (before ++ items) (steps items after .state) (steps items after .ranges) (steps items after .marks)
+steps-left [] before after left = rw append-nil left
+steps-left {lengths} (item ∷ items) before after left =
+    let next = stepOf item (after .state) (after .ranges) (after .marks) in
+    let last = steps items next in
+    subst (λ l. AsLeft lengths l (last .state) (last .ranges) (last .marks)) (append-assoc before (item ∷ []) items)
+    (steps-left items (before ++ item ∷ []) next (step-carries left item .left))
+
+pub stepsAnswer : StepsAnswer
+unfolding StepsAnswer
+stepsAnswer lengths items ranges marks long-ranges long-marks =
+    told-left (steps-left items [] (leaving (opened lengths) ranges marks) (opening-left lengths ranges marks long-ranges long-marks))
+
+pub beginningAnswers : BeginningAnswers
+unfolding BeginningAnswers
+beginningAnswers = beginning-answers
+
+-- ---- the places
+pub accessesAndCommitsChangeNone : AccessesAndCommitsChangeNone
+unfolding AccessesAndCommitsChangeNone
+accessesAndCommitsChangeNone e s ranges marks = none-changed s ranges marks e
+
+pub operationsChangeTheirRecord : OperationsChangeTheirRecord
+unfolding OperationsChangeTheirRecord
+operationsChangeTheirRecord e s ranges marks = one-put s ranges marks e
+
+pub refusalsChangeNone : RefusalsChangeNone
+unfolding RefusalsChangeNone
+refusalsChangeNone lengths items item s ranges marks left = refusal-unchanged left item
+
+pub oneRecordEach : OneRecordEach
+unfolding OneRecordEach
+oneRecordEach = one-each
+
+pub wordsPastStay : WordsPastStay
+unfolding WordsPastStay
+wordsPastStay lengths items item s ranges marks left = past-unchanged left item
+
+-- ---- states that no judge leaves
+pub anyStateAnswers : AnyStateAnswers
+unfolding AnyStateAnswers
+anyStateAnswers s = told s (answerIn s) refl .1 .1
+
+-- a refusal that is held, or a wrong shape, is no acceptance
+not-one : (a : Answer) (kept : Bool) → isRefusal a ≡ kept → ¬ IsAccepted (cond kept a answer.WrongShape)
+not-one a true h e = omega (arith, leb-true 2 (codeOf a) (both (leb 2 (codeOf a)) (fit (numbersOf a)) h .0), e)
+not-one a false h e = omega (arith, e)
+
+not-sound : (s : State) → isSound s ≡ false → ¬ IsAccepted (answerIn s)
+unfolding answerIn
+not-sound s h = by-refusal (isNoVerdict (s .refusal))
+  where
+    by-refusal : (t : Bool)
+        → ¬ IsAccepted (cond t (cond (isSound s) (answer.Accepted (s .events) (s .peak)) answer.WrongShape)
+        (cond (isRefusal (s .refusal)) (s .refusal) answer.WrongShape))
+    by-refusal true e = omega (arith, sym (ap (λ t. codeOf (cond t (answer.Accepted (s .events) (s .peak)) answer.WrongShape)) h) ∙ e)
+    by-refusal false e = not-one (s .refusal) (isRefusal (s .refusal)) refl e
+
+-- after a refusal nothing is accepted
+ended-refuses : (lengths : Lengths) (n : ℕ) (a : Answer) → isNoVerdict a ≡ false → ¬ IsAccepted (answerIn (ended lengths n a))
+unfolding answerIn
+ended-refuses lengths n a h e = not-one a (isRefusal a) refl (sym (ap codeOf (by-test (isNoVerdict a) h)) ∙ e)
+  where
+    by-test : (t : Bool) → t ≡ false
+        → cond t (cond (isSound (ended lengths n a)) (answer.Accepted n 0) answer.WrongShape) (cond (isRefusal a) a answer.WrongShape)
+        ≡ cond (isRefusal a) a answer.WrongShape
+    by-test t q = rw q
+
+counted-refuses : (s : State) → ¬ IsAccepted (answerIn (counted s))
+unfolding counted
+counted-refuses s = by-tests (ltb (s .events) eventLimit) (isNoVerdict (s .refusal)) refl
+  where
+    by-tests : (few none : Bool) → isNoVerdict (s .refusal) ≡ none
+        → ¬ IsAccepted (answerIn (cond few (ended (lengthsOf s) (s .events + 1) (cond none answer.WrongShape (s .refusal)))
+        (ended (lengthsOf s) (suc eventLimit) answer.TooManyEvents)))
+    by-tests true true h = ended-refuses (lengthsOf s) (s .events + 1) answer.WrongShape refl
+    by-tests true false h = ended-refuses (lengthsOf s) (s .events + 1) (s .refusal) h
+    by-tests false none h = ended-refuses (lengthsOf s) (suc eventLimit) answer.TooManyEvents refl
+
+pub faultsShow : FaultsShow
+unfolding FaultsShow
+faultsShow = (
+  not-sound,
+  λ item s ranges marks stops. subst (λ (a : After). ¬ IsAccepted (answerIn (a .state)))
+      (sym (step-counted s ranges marks item stops)) (counted-refuses s),
+)
