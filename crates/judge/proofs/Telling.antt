@@ -11,7 +11,7 @@ use borrow.Author.Tests.{le-leb, ne-eqb}
 use Rattle.answer.proofs.Both.{both}
 use Rattle.answer.proofs.Given.{fits-given}
 use Rattle.answer.specs.declared.Answer.{Answer}
-use Rattle.answer.specs.declared.Answer.the-variants.{Accepted, WrongShape}
+use Rattle.answer.specs.declared.Answer.the-variants.{Accepted, WrongShape, WrongMemoryLength}
 use Rattle.answer.specs.Numbers.{numbersOf}
 use Rattle.answer.specs.Table.{eventLimit, fitNamed, fit}
 use Rattle.answer.specs.Theorems.{Given}
@@ -36,6 +36,11 @@ module _ (lengths : Lengths) where
   unfolding opened stateOf openOf answerOf judged openRecords
   by-lengths true h = (rw h, rw h)
   by-lengths false h = (rw h, rw h)
+
+  pub opened-so : (t : Bool) → areMemoryLengths lengths ≡ t
+      → cond t (tracking lengths []) (ended lengths 0 WrongMemoryLength) ≡ opened lengths
+  unfolding opened
+  opened-so t h = ap (λ s. cond s (tracking lengths []) (ended lengths 0 WrongMemoryLength)) (sym h)
 
   pub opening-left : (ranges marks : List ℕ) → placeLength ≤ length ranges → placeLength ≤ length marks
       → AsLeft lengths [] (opened lengths) ranges marks

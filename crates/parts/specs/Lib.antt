@@ -1,3 +1,3 @@
--- What the contracts of `parts` cite. Nobody has to believe it: it says how the judge keeps track, and crate `judge` proves
--- that this gives the answers of the rules.
+-- What the contracts of `parts` cite: which record an event has, and which groups and waits. That answers so found are those of
+-- the rules need not be believed: crate `judge` proves it.
 pub mod Parts
