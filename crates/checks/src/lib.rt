@@ -41,32 +41,21 @@ fn aligned(event: Event) -> bool
 {
     match event {
         Event::Load { address, size } => multiple_of(size, offset_of(address)),
-        Event::Store {
-            address,
-            size,
-            low: _,
-            high: _,
-        } => multiple_of(size, offset_of(address)),
+        Event::Store { address, size, .. } => multiple_of(size, offset_of(address)),
         Event::Copy {
             dst,
             src,
             cp_size,
-            mode: _,
-            cache: _,
+            ..
         } => multiple_of(cp_size, dst.0) & multiple_of(cp_size, src.0),
         Event::Commit => true,
         Event::Wait(_) => true,
         Event::WaitAll => true,
-        Event::BulkCopy { dst, src, size: _ } => {
+        Event::BulkCopy { dst, src, .. } => {
             multiple_of(BULK_ALIGNMENT, dst.0) & multiple_of(BULK_ALIGNMENT, src.0)
         }
-        Event::BulkReduction {
-            dst,
-            src,
-            size: _,
-            operation: _,
-            element: _,
-        } => multiple_of(BULK_ALIGNMENT, dst.0) & multiple_of(BULK_ALIGNMENT, src.0),
+        Event::BulkReduction { dst, src, .. } => multiple_of(BULK_ALIGNMENT, dst.0)
+            & multiple_of(BULK_ALIGNMENT, src.0),
         Event::BulkCommit => true,
         Event::BulkWait(_) => true,
     }
@@ -88,18 +77,17 @@ fn in_range(event: Event, global: u32, shared: u32) -> bool
         Event::Load { address, size } => {
             inside(offset_of(address), size, length_of(address, global, shared))
         }
-        Event::Store {
-            address,
+        Event::Store { address, size, .. } => inside(
+            offset_of(address),
             size,
-            low: _,
-            high: _,
-        } => inside(offset_of(address), size, length_of(address, global, shared)),
+            length_of(address, global, shared),
+        ),
         Event::Copy {
             dst,
             src,
             cp_size,
             mode,
-            cache: _,
+            ..
         } => inside(dst.0, cp_size, shared) & inside(src.0, bytes_read(mode, cp_size), global),
         Event::Commit => true,
         Event::Wait(_) => true,
@@ -107,13 +95,8 @@ fn in_range(event: Event, global: u32, shared: u32) -> bool
         Event::BulkCopy { dst, src, size } => {
             inside(dst.0, size, global) & inside(src.0, size, shared)
         }
-        Event::BulkReduction {
-            dst,
-            src,
-            size,
-            operation: _,
-            element: _,
-        } => inside(dst.0, size, global) & inside(src.0, size, shared),
+        Event::BulkReduction { dst, src, size, .. } => inside(dst.0, size, global)
+            & inside(src.0, size, shared),
         Event::BulkCommit => true,
         Event::BulkWait(_) => true,
     }

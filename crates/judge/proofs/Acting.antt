@@ -15,7 +15,7 @@ use Rattle.operations.specs.Table.{rangeWords, markWords, records, placed}
 use Rattle.operations.specs.Clash.{firstClash}
 use Rattle.operations.specs.Waiting.{kept}
 use Rattle.operations.proofs.Records.{put-next, records-placed, four-ranges, four-marks}
-use Rattle.parts.specs.declared.Made.{Made}
+use Rattle.parts.specs.declared.GroupsMade.{GroupsMade}
 use Rattle.parts.specs.declared.Part.{Part}
 use Rattle.parts.specs.declared.Part.the-variants as part
 use Rattle.judge.specs.declared.State.{State}
@@ -49,7 +49,7 @@ recordsAfter (part.Operation r) rs = rs ++ r ∷ []
 recordsAfter (part.Commit made) rs = rs
 recordsAfter (part.Wait made wait) rs = kept wait rs
 
-abbrev pub madeAfter : Part → Made → Made
+abbrev pub madeAfter : Part → GroupsMade → GroupsMade
 madeAfter (part.Access r) made = made
 madeAfter (part.Operation r) made = made
 madeAfter (part.Commit made′) made = made′

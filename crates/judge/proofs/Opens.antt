@@ -25,7 +25,7 @@ use Rattle.operations.specs.Waiting.{staysOpen, kept}
 use Rattle.operations.proofs.Tags.{chain-back}
 use Rattle.operations.proofs.Searching.{orNext, first-append}
 use Rattle.operations.proofs.Keeping.{stays-other, stays-by-count, kept-append, onlyIf}
-use Rattle.parts.specs.declared.Made.{Made}
+use Rattle.parts.specs.declared.GroupsMade.{GroupsMade}
 use Rattle.parts.specs.declared.Part.{Part}
 use Rattle.parts.specs.declared.Part.the-variants as part
 use Rattle.parts.specs.Parts.{waitCopies, waitBulk, commitCopies, partOf}
@@ -45,7 +45,7 @@ use Rattle.judge.proofs.Acting.{clashIn, recordsAfter, madeAfter}
 use Rattle.judge.proofs.Touching.{touchIn, clash-collide, no-touch}
 
 -- ---- groups made
-abbrev counts : ℕ → ℕ → Made
+abbrev counts : ℕ → ℕ → GroupsMade
 counts copies bulk = record { copies = copies; bulk = bulk }
 
 made-is : (es : List Event) (w : ℕ) → madeBy es w ≡ counts (commits NonBulk es w) (commits Bulk es w)
@@ -72,11 +72,11 @@ abbrev digit : Chain → ℕ
 digit NonBulk = 0
 digit Bulk = 1
 
-abbrev madeIn : Chain → Made → ℕ
+abbrev madeIn : Chain → GroupsMade → ℕ
 madeIn NonBulk made = made .copies
 madeIn Bulk made = made .bulk
 
-pub record Starts (k : ℕ) (made : Made) (e : Event) : Type 0 where
+pub record Starts (k : ℕ) (made : GroupsMade) (e : Event) : Type 0 where
   pub its : Record
   chain : Chain
   pub part-is : partOf k made e ≡ part.Operation its
@@ -85,7 +85,7 @@ pub record Starts (k : ℕ) (made : Made) (e : Event) : Type 0 where
   chain-is : chainIn (its .tag) ≡ digit chain
   commits-are : its .commits ≡ madeIn chain made
 
-pub starts : (k : ℕ) (made : Made) (e : Event) → isOperation e ≡ true → Starts k made e
+pub starts : (k : ℕ) (made : GroupsMade) (e : Event) → isOperation e ≡ true → Starts k made e
 starts k made (event.Load address size) h = absurd (false≢true h)
 starts k made (event.Store address size low high) h = absurd (false≢true h)
 starts k made (event.Copy dst src cpSize mode cache) h =
@@ -108,7 +108,7 @@ starts k made event.BulkCommit h = absurd (false≢true h)
 starts k made (event.BulkWait n) h = absurd (false≢true h)
 
 -- what is no operation has none
-no-record : (k : ℕ) (made : Made) (e : Event) → isOperation e ≡ false → recordIn (partOf k made e) ≡ []
+no-record : (k : ℕ) (made : GroupsMade) (e : Event) → isOperation e ≡ false → recordIn (partOf k made e) ≡ []
 no-record k made (event.Load (Global at) size) h = refl
 no-record k made (event.Load (Shared at) size) h = refl
 no-record k made (event.Store (Global at) size low high) h = refl
@@ -170,7 +170,7 @@ not-less a b = by-test (ltb b a) refl
 differ : {m : ℕ} → m ≡ 0 → m ≡ 1 → ⊥
 differ p q = omega (arith, p, q)
 
-stays-open : (n : ℕ) (made : Made) (e : Event) (o : Record) (chain : Chain)
+stays-open : (n : ℕ) (made : GroupsMade) (e : Event) (o : Record) (chain : Chain)
     → chainIn (o .tag) ≡ digit chain → o .commits ≤ madeIn chain made
     → stays (partOf n made e) o ≡ not (closesNow (role chain e) (o .commits) (madeIn chain made))
 stays-open n made (event.Load (Global at) size) o NonBulk c l = refl

@@ -24,7 +24,7 @@ use Rattle.operations.specs.Tag.{writtenIn, reductionIn}
 use Rattle.operations.specs.Clash.{shareByte, clashOf}
 use Rattle.operations.proofs.Ranges.{share-tells, share-sym, same-test}
 use Rattle.operations.proofs.Tags.{written-back, reduction-back}
-use Rattle.parts.specs.declared.Made.{Made}
+use Rattle.parts.specs.declared.GroupsMade.{GroupsMade}
 use Rattle.parts.specs.declared.Part.{Part}
 use Rattle.parts.specs.declared.Part.the-variants as part
 use Rattle.parts.specs.Parts.{partOf}
@@ -166,7 +166,7 @@ abbrev Described : Option Record → Event → Type 0
 Described none e = accesses e ≡ []
 Described (some r) e = Describes r e
 
-module _ (n : ℕ) (made : Made) where
+module _ (n : ℕ) (made : GroupsMade) where
   described : (e : Event) → Described (touchIn (partOf n made e)) e
   described (Load (address.Global at) size) = tells Shared refl (no-reduction (λ p. refl)) (only-second refl)
   described (Load (address.Shared at) size) = tells Global refl (no-reduction (λ p. refl)) (only-second refl)
@@ -186,14 +186,14 @@ module _ (n : ℕ) (made : Made) where
 
 -- ---- the laws
 -- the record of an operation clashes with that of an event just if the two events collide
-pub clash-collide : (i : ℕ) (made : Made) (o : Event) (operation : Record) → partOf i made o ≡ part.Operation operation
-    → (n : ℕ) (made′ : Made) (e : Event) (event : Record) → touchIn (partOf n made′ e) ≡ some event
+pub clash-collide : (i : ℕ) (made : GroupsMade) (o : Event) (operation : Record) → partOf i made o ≡ part.Operation operation
+    → (n : ℕ) (made′ : GroupsMade) (e : Event) (event : Record) → touchIn (partOf n made′ e) ≡ some event
     → clashOf event operation ≡ collide o e
 clash-collide i made o operation p n made′ e event q =
     same-clash (rw q at (described n made′ e)) (rw p at (described i made o))
 
 -- an event with no record collides with none
-pub no-touch : (n : ℕ) (made : Made) (o e : Event) → touchIn (partOf n made e) ≡ none → collide o e ≡ false
+pub no-touch : (n : ℕ) (made : GroupsMade) (o e : Event) → touchIn (partOf n made e) ≡ none → collide o e ≡ false
 no-touch n made o e h =
     let silent : accesses e ≡ [] = rw h at (described n made e) in
     rw (silent, any-of-none (λ x. false) (λ x. refl) (accesses o), and-false)

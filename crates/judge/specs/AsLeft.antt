@@ -15,7 +15,7 @@ use Rattle.decoder.specs.declared.Item.{Item}
 use Rattle.decoder.specs.declared.Item.the-variants.{Decoded, UnknownKind, WrongBodyLength, FieldNotAllowed}
 use Rattle.operations.specs.declared.Record.{Record}
 use Rattle.operations.specs.Table.{rangeWords, markWords, placed}
-use Rattle.parts.specs.declared.Made.{Made}
+use Rattle.parts.specs.declared.GroupsMade.{GroupsMade}
 use Rattle.parts.specs.declared.Part.{Part}
 use Rattle.parts.specs.declared.Part.the-variants.{Access, Operation, Commit, Wait}
 use Rattle.parts.specs.Parts.{partOf}
@@ -32,7 +32,7 @@ abbrev pub placeLength : ℕ
 placeLength = 4 * eventLimit
 
 -- How many groups each chain has made in the first n events.
-abbrev pub madeBy : List Event → ℕ → Made
+abbrev pub madeBy : List Event → ℕ → GroupsMade
 madeBy es n = record { copies = length (groups NonBulk es n .made); bulk = length (groups Bulk es n .made) }
 
 -- The record of an operation that starts.

@@ -22,7 +22,7 @@ use Rattle.operations.specs.declared.Partner.the-variants as partner
 use Rattle.operations.specs.Table.{rangeWords, markWords, records, placed}
 use Rattle.operations.specs.Clash.{firstClash}
 use Rattle.operations.specs.Waiting.{kept}
-use Rattle.parts.specs.declared.Made.{Made}
+use Rattle.parts.specs.declared.GroupsMade.{GroupsMade}
 use Rattle.parts.specs.declared.Part.{Part}
 use Rattle.parts.specs.declared.Part.the-variants.{Access, Operation, Commit, Wait}
 use Rattle.parts.specs.Parts.{partOf}
@@ -93,7 +93,7 @@ counted s =
 abbrev pub refusedBy : State → Answer → State
 refusedBy s refusal = ended (lengthsOf s) (s .events + 1) refusal
 
-abbrev pub passedTo : State → ℕ → Made → State
+abbrev pub passedTo : State → ℕ → GroupsMade → State
 passedTo s unclosed made = record {
   events = s .events + 1;
   peak = max (s .peak) unclosed;

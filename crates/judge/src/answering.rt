@@ -2,7 +2,7 @@
 use crate::State;
 use answer::Answer;
 use answer::EVENT_LIMIT;
-use parts::Made;
+use parts::GroupsMade;
 use trace::MEMORY_LIMIT;
 ghost use mathlib.Core.Path.{_≡_};
 ghost use mathlib.Core.List.{List, []};
@@ -30,7 +30,7 @@ impl State {
             events: 0,
             peak: 0,
             unclosed: 0,
-            made: Made { copies: 0, bulk: 0 },
+            made: GroupsMade { copies: 0, bulk: 0 },
             global,
             shared,
             refusal,

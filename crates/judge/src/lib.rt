@@ -8,7 +8,7 @@ use answer::Answer;
 use answer::EVENT_LIMIT;
 pub use file::judge;
 pub use file::judge_beginning;
-use parts::Made;
+use parts::GroupsMade;
 
 // The words of each lent place: four for each operation that can be open.
 pub const PLACE_LENGTH: usize = 4 * (EVENT_LIMIT as usize);
@@ -19,7 +19,7 @@ pub struct State {
     // The largest number of operations open after any event, and how many are open now.
     pub peak: u32,
     pub unclosed: u32,
-    pub made: Made,
+    pub made: GroupsMade,
     pub global: u32,
     pub shared: u32,
     // No verdict as long as nothing is refused.

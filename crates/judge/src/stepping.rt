@@ -9,7 +9,7 @@ use decoder::Item;
 use event::Event;
 use operations::Partner;
 use operations::Record;
-use parts::Made;
+use parts::GroupsMade;
 use parts::Part;
 ghost use mathlib.Core.Path.{_≡_};
 ghost use mathlib.Core.Bool.{true};
@@ -93,7 +93,7 @@ impl State {
             events,
             peak: 0,
             unclosed: 0,
-            made: Made { copies: 0, bulk: 0 },
+            made: GroupsMade { copies: 0, bulk: 0 },
             global: self.global,
             shared: self.shared,
             refusal,
@@ -109,7 +109,7 @@ impl State {
     }
 
     // The state after an event that passes, with so many operations open and these groups made.
-    fn passed(self, unclosed: u32, made: Made) -> State
+    fn passed(self, unclosed: u32, made: GroupsMade) -> State
         requires { ⌜ self .events < eventLimit ⌝ }
         ensures { λ r. ⌜ r ≡ passedTo self unclosed made ⌝ }
     {

@@ -13,7 +13,7 @@ use Rattle.operations.specs.declared.Range.{Range}
 use Rattle.operations.specs.declared.Wait.{Wait}
 use Rattle.operations.specs.Tag.{tagOf}
 use Rattle.rules.specs.Events.{bytesRead}
-use Rattle.parts.specs.declared.Made.{Made}
+use Rattle.parts.specs.declared.GroupsMade.{GroupsMade}
 use Rattle.parts.specs.declared.Part.{Part}
 use Rattle.parts.specs.declared.Part.the-variants as part
 
@@ -43,7 +43,7 @@ abbrev pub storePart : ℕ → Address → ℕ → Part
 storePart number (Global at) size = accessPart number (bytes (at .0) size) (bytes 0 0) bulkTag
 storePart number (Shared at) size = accessPart number (bytes (at .0) size) (bytes 0 0) copyTag
 
-abbrev pub copyPart : ℕ → Made → SharedAddress → ℕ → GlobalAddress → ℕ → Part
+abbrev pub copyPart : ℕ → GroupsMade → SharedAddress → ℕ → GlobalAddress → ℕ → Part
 copyPart number made dst size src read = part.Operation (record {
   writes = bytes (dst .0) size;
   reads = bytes (src .0) read;
@@ -52,7 +52,7 @@ copyPart number made dst size src read = part.Operation (record {
   tag = copyTag;
 })
 
-abbrev pub bulkPart : ℕ → Made → GlobalAddress → SharedAddress → ℕ → ℕ → Part
+abbrev pub bulkPart : ℕ → GroupsMade → GlobalAddress → SharedAddress → ℕ → ℕ → Part
 bulkPart number made dst src size tag = part.Operation (record {
   writes = bytes (dst .0) size;
   reads = bytes (src .0) size;
@@ -61,20 +61,20 @@ bulkPart number made dst src size tag = part.Operation (record {
   tag = tag;
 })
 
-abbrev pub commitCopies : Made → Made
+abbrev pub commitCopies : GroupsMade → GroupsMade
 commitCopies made = record { copies = made .copies + 1; bulk = made .bulk }
 
-abbrev pub commitBulk : Made → Made
+abbrev pub commitBulk : GroupsMade → GroupsMade
 commitBulk made = record { copies = made .copies; bulk = made .bulk + 1 }
 
-abbrev pub waitCopies : Made → ℕ → Wait
+abbrev pub waitCopies : GroupsMade → ℕ → Wait
 waitCopies made newest = record { chain = 0; commits = made .copies; newest = newest }
 
-abbrev pub waitBulk : Made → ℕ → Wait
+abbrev pub waitBulk : GroupsMade → ℕ → Wait
 waitBulk made newest = record { chain = 1; commits = made .bulk; newest = newest }
 
 -- What event `number` is, before which the chains have made these groups.
-abbrev pub partOf : ℕ → Made → Event → Part
+abbrev pub partOf : ℕ → GroupsMade → Event → Part
 partOf number made (event.Load address size) = loadPart number address size
 partOf number made (event.Store address size low high) = storePart number address size
 partOf number made (event.Copy dst src cpSize mode cache) = copyPart number made dst cpSize src (bytesRead mode cpSize)

@@ -16,7 +16,7 @@ ghost use Prim.Native.Nat.{_<_};
 ghost use Rattle.parts.specs.Parts.{bytes, accessPart, loadPart, storePart, copyPart, bulkPart, reductionTag, commitCopies, commitBulk, waitCopies, waitBulk, partOf};
 
 // How many groups each chain has made.
-pub struct Made {
+pub struct GroupsMade {
     pub copies: u32,
     pub bulk: u32,
 }
@@ -26,8 +26,8 @@ pub enum Part {
     Access(Record),
     Operation(Record),
     // These two with the groups made after them.
-    Commit(Made),
-    Wait(Made, Wait),
+    Commit(GroupsMade),
+    Wait(GroupsMade, Wait),
 }
 
 // The parts of a tag are digits of base 16: the memory that is written ..
@@ -52,24 +52,19 @@ fn reduction_tag(operation: Operation, element: ElementType) -> u32
 }
 
 // What event `number` is, before which the chains have made these groups.
-pub fn part_of(number: u32, made: Made, event: Event) -> Part
+pub fn part_of(number: u32, made: GroupsMade, event: Event) -> Part
     requires { ⌜ (made .copies < 4294967295) × (made .bulk < 4294967295) ⌝ }
     ensures { λ r. ⌜ r ≡ partOf number made event ⌝ }
 {
     match event {
         Event::Load { address, size } => load(number, address, size),
-        Event::Store {
-            address,
-            size,
-            low: _,
-            high: _,
-        } => store(number, address, size),
+        Event::Store { address, size, .. } => store(number, address, size),
         Event::Copy {
             dst,
             src,
             cp_size,
             mode,
-            cache: _,
+            ..
         } => copy(number, made, dst, cp_size, src, bytes_read(mode, cp_size)),
         Event::Commit => Part::Commit(commit_copies(made)),
         Event::Wait(newest) => Part::Wait(made, wait_copies(made, newest)),
@@ -128,7 +123,7 @@ fn access(number: u32, writes: Range, reads: Range, tag: u32) -> Part
 
 fn copy(
     number: u32,
-    made: Made,
+    made: GroupsMade,
     dst: SharedAddress,
     size: u32,
     src: GlobalAddress,
@@ -147,7 +142,7 @@ fn copy(
 
 fn bulk(
     number: u32,
-    made: Made,
+    made: GroupsMade,
     dst: GlobalAddress,
     src: SharedAddress,
     size: u32,
@@ -170,27 +165,27 @@ fn bytes(start: u32, length: u32) -> Range
     Range { start, length }
 }
 
-fn commit_copies(made: Made) -> Made
+fn commit_copies(made: GroupsMade) -> GroupsMade
     requires { ⌜ made .copies < 4294967295 ⌝ }
     ensures { λ r. ⌜ r ≡ commitCopies made ⌝ }
 {
-    Made {
+    GroupsMade {
         copies: made.copies + 1,
         bulk: made.bulk,
     }
 }
 
-fn commit_bulk(made: Made) -> Made
+fn commit_bulk(made: GroupsMade) -> GroupsMade
     requires { ⌜ made .bulk < 4294967295 ⌝ }
     ensures { λ r. ⌜ r ≡ commitBulk made ⌝ }
 {
-    Made {
+    GroupsMade {
         copies: made.copies,
         bulk: made.bulk + 1,
     }
 }
 
-fn wait_copies(made: Made, newest: u32) -> Wait
+fn wait_copies(made: GroupsMade, newest: u32) -> Wait
     ensures { λ r. ⌜ r ≡ waitCopies made newest ⌝ }
 {
     Wait {
@@ -200,7 +195,7 @@ fn wait_copies(made: Made, newest: u32) -> Wait
     }
 }
 
-fn wait_bulk(made: Made, newest: u32) -> Wait
+fn wait_bulk(made: GroupsMade, newest: u32) -> Wait
     ensures { λ r. ⌜ r ≡ waitBulk made newest ⌝ }
 {
     Wait {
