@@ -15,7 +15,7 @@ ghost use mathlib.Core.Path.{_≡_};
 ghost use Prim.Native.Nat.{_<_};
 ghost use Rattle.parts.specs.Parts.{bytes, accessPart, loadPart, storePart, copyPart, bulkPart, reductionTag, commitCopies, commitBulk, waitCopies, waitBulk, partOf};
 
-// How many groups each chain has made.
+// How many groups each chain has made: that of the non-bulk copies, and the bulk one.
 pub struct GroupsMade {
     pub copies: u32,
     pub bulk: u32,
@@ -30,7 +30,7 @@ pub enum Part {
     Wait(GroupsMade, Wait),
 }
 
-// The parts of a tag are digits of base 16: the memory that is written ..
+// The parts of a tag, as crate `operations` reads them, are digits of base 16: the memory that is written ..
 const SHARED: u32 = 0;
 
 const GLOBAL: u32 = 1;

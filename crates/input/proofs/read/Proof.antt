@@ -1,76 +1,109 @@
--- `input::read` meets its contract.
+-- `input::read` meets its contract: each piece adds at most its 65,536 bytes. The measure is the count of pieces left.
 -- Assumes nothing.
-use Prim.Native.Nat.{ℕ, _+_}
+use Prim.Native.Nat.{_*_, _-_, _≤_}
 use native.Mathlib.Omega.{arith}
 use mathlib.Core.Path.{_≡_, refl}
-use mathlib.Core.Logic.{_⊎_, inl, inr}
-use mathlib.Core.Bool.{Bool, true, false, _||_}
-use lib.Dec.{eqb}
 use lib.ListN.{length}
-use borrow.Author.Tests.{eqb-true}
 use borrow.Author.Needs.{needs}
 use Rattle.input.proofs.read.Statement.{statement}
 use Rattle.input.proofs.read.Tie as tie
+use Rattle.input.proofs.read.Reads as reads
+use Rattle.input.proofs.read.Lts as lts
+use Rattle.input.proofs.keep.Reads as keep-reads
+use Rattle.input.proofs.least.Reads as least-reads
+use Rattle.io.proofs.count.Reads as count-reads
+use Rattle.io.proofs.large_buffer.Reads as large-buffer-reads
+use Rattle.libc.proofs.read.Reads as read-reads
 
--- what the test tells
-all-or-lent : (held rest lent : ℕ) → (eqb rest 0 || eqb held lent) ≡ true → (held ≡ lent) ⊎ (held ≡ held + rest)
-all-or-lent held rest lent h = by-test (eqb rest 0) refl h
-  where
-    by-test : (t : Bool) → eqb rest 0 ≡ t → (t || eqb held lent) ≡ true → (held ≡ lent) ⊎ (held ≡ held + rest)
-    by-test true e k = inr (omega (arith, eqb-true rest 0 e))
-    by-test false e k = inl (eqb-true held lent k)
+abbrev Inv-loop : tie.InvT-loop
+Inv-loop fd beginning₀ total₀ pieces₀ beginning total pieces = (total ≤ 65536 * pieces) × (length beginning ≡ length beginning₀)
 
-read-full-requires : tie.Need-read-full-requires
-read-full-requires c κs = search needs
+abbrev μ-loop : tie.MeasureT-loop
+μ-loop fd beginning₀ total₀ pieces₀ beginning total pieces = 4294967295 - pieces
 
-count-rest-requires : tie.Need-count-rest-requires
-count-rest-requires c κs = search needs
+loop-holds : tie.Need-loop-holds Inv-loop μ-loop
+loop-holds c = (omega arith, refl)
 
-enum-known-rest : tie.Need-enum-known-rest
-enum-known-rest c = search needs
+large-buffer-requires : tie.Need-large-buffer-requires Inv-loop μ-loop
+large-buffer-requires c κs = search needs
 
-add-t14 : tie.Need-add-t14
-add-t14 c =
-    let few = rw (c .before .before .rest .given .1) at (c .before .before .before .before .count-rest .ensures) in
-    omega (arith, few, c .before .before .before .before .before .before .before .read-full .ensures)
+slice-aggregate-read : tie.Need-slice-aggregate-read Inv-loop μ-loop
+slice-aggregate-read c = search needs
 
-enum-told : tie.Need-enum-told
-enum-told c = search needs
+read-requires : tie.Need-read-requires Inv-loop μ-loop
+read-requires c κs = search needs
 
-same-length : tie.Need-same-length
-same-length c = search needs
+same-length : tie.Need-same-length Inv-loop μ-loop
+same-length c = omega arith
 
-returns : tie.Need-returns
-returns c =
-    let held = c .before .before .before .before .before .before .before .read-full .result in
-    let rest = c .before .before .rest .given .0 .0 in
-    let lent = length (c .before .before .before .before .before .before .before .read-full .last .1 .0) in
-    (omega (arith, c .before .before .before .before .before .before .before .read-full .ensures), omega arith, all-or-lent held rest lent (c .if1 .taken))
+returns : tie.Need-returns Inv-loop μ-loop
+returns c = tt
 
-same-length-2 : tie.Need-same-length-2
-same-length-2 c = search needs
+least-requires : tie.Need-least-requires Inv-loop μ-loop
+least-requires c κs = search needs
 
-returns-2 : tie.Need-returns-2
-returns-2 c = search needs
+same-length-2 : tie.Need-same-length-2 Inv-loop μ-loop
+same-length-2 c = omega arith
 
-same-length-3 : tie.Need-same-length-3
-same-length-3 c = search needs
+returns-2 : tie.Need-returns-2 Inv-loop μ-loop
+returns-2 c = c .least .ensures
 
-returns-3 : tie.Need-returns-3
-returns-3 c = search needs
+slice-aggregate-count : tie.Need-slice-aggregate-count Inv-loop μ-loop
+slice-aggregate-count c = search needs
+
+count-requires : tie.Need-count-requires Inv-loop μ-loop
+count-requires c κs = search needs
+
+array-share-prefix-piece : tie.Need-array-share-prefix-piece Inv-loop μ-loop
+array-share-prefix-piece c = search needs
+
+slice-aggregate-keep : tie.Need-slice-aggregate-keep Inv-loop μ-loop
+slice-aggregate-keep c = search needs
+
+keep-requires : tie.Need-keep-requires Inv-loop μ-loop
+keep-requires c κs = search needs
+
+add-total : tie.Need-add-total Inv-loop μ-loop
+add-total c = omega arith
+
+add-pieces : tie.Need-add-pieces Inv-loop μ-loop
+add-pieces c = omega arith
+
+loop-less : tie.Need-loop-less Inv-loop μ-loop
+loop-less c = omega arith
+
+loop-again : tie.Need-loop-again Inv-loop μ-loop
+loop-again c = (omega arith, omega arith)
+
+same-length-3 : tie.Need-same-length-3 Inv-loop μ-loop
+same-length-3 c = omega arith
+
+returns-3 : tie.Need-returns-3 Inv-loop μ-loop
+returns-3 c = tt
 
 pub read-spec : {M : Type 1} → statement M
 read-spec =
     tie.close
     (tie.spec
-    read-full-requires
-    count-rest-requires
-    enum-known-rest
-    add-t14
-    enum-told
+    Inv-loop
+    μ-loop
+    loop-holds
+    large-buffer-requires
+    slice-aggregate-read
+    read-requires
     same-length
     returns
+    least-requires
     same-length-2
     returns-2
+    slice-aggregate-count
+    count-requires
+    array-share-prefix-piece
+    slice-aggregate-keep
+    keep-requires
+    add-total
+    add-pieces
+    loop-less
+    loop-again
     same-length-3
     returns-3)

@@ -1,5 +1,6 @@
 -- `answer_from` lends on what is held.
 -- Assumes nothing.
+use native.Mathlib.Omega.{arith}
 use mathlib.Core.Path.{sym}
 use lib.Seq.{length-take-le}
 use borrow.Author.Needs.{needs}
@@ -16,10 +17,14 @@ enum-known-held : tie.Need-enum-known-held
 enum-known-held c = search needs
 
 array-share-prefix-beginning : tie.Need-array-share-prefix-beginning
-array-share-prefix-beginning c = (rw (c .before .held .given .1) at (c .before .before .before .before .read .ensures)) .0
+array-share-prefix-beginning c =
+    let held = rw (c .before .held .given .1) at (c .before .before .before .before .read .ensures) in
+    omega (arith, held)
 
 slice-aggregate-judge-beginning : tie.Need-slice-aggregate-judge-beginning
-slice-aggregate-judge-beginning c = sym (length-take-le _ _ ((rw (c .before .before .held .given .1) at (c .before .before .before .before .before .read .ensures)) .0))
+slice-aggregate-judge-beginning c =
+    let held = rw (c .before .before .held .given .1) at (c .before .before .before .before .before .read .ensures) in
+    sym (length-take-le _ _ (omega (arith, held)))
 
 judge-beginning-requires : tie.Need-judge-beginning-requires
 judge-beginning-requires c κs = search needs

@@ -1,5 +1,6 @@
 -- `main` lends on what is held.
 -- Assumes nothing.
+use native.Mathlib.Omega.{arith}
 use mathlib.Core.Path.{sym}
 use lib.Seq.{length-take-le}
 use borrow.Author.Needs.{needs}
@@ -16,10 +17,14 @@ enum-known-held : tie.Need-enum-known-held
 enum-known-held c = search needs
 
 array-share-prefix-beginning : tie.Need-array-share-prefix-beginning
-array-share-prefix-beginning c = (rw (c .before .held .given .1) at (c .before .before .before .before .read .ensures)) .0
+array-share-prefix-beginning c =
+    let held = rw (c .before .held .given .1) at (c .before .before .before .before .read .ensures) in
+    omega (arith, held)
 
 slice-aggregate-check : tie.Need-slice-aggregate-check
-slice-aggregate-check c = sym (length-take-le _ _ ((rw (c .before .before .held .given .1) at (c .before .before .before .before .before .read .ensures)) .0))
+slice-aggregate-check c =
+    let held = rw (c .before .before .held .given .1) at (c .before .before .before .before .before .read .ensures) in
+    sym (length-take-le _ _ (omega (arith, held)))
 
 check-requires : tie.Need-check-requires
 check-requires c κs = search needs

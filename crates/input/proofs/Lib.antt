@@ -1,0 +1,2 @@
+-- The laws of an input's beginning.
+pub mod Kept
