@@ -1,8 +1,9 @@
 -- What is known of a state that goes on.
 -- Assumes nothing.
 use Prim.Native.Nat.{ℕ, suc, _+_, _≤_, _<_}
-use mathlib.Core.Path.{_≡_}
-use mathlib.Core.Bool.{true}
+use mathlib.Core.Path.{_≡_, refl}
+use mathlib.Core.Bool.{Bool, true, false, cond}
+use lib.Dec.{ltb}
 use borrow.Author.Tests.{leb-true, ltb-true, eqb-true, lt-ltb, le-ltb, eq-eqb, ne-eqb}
 use Rattle.answer.proofs.Both.{both}
 use Rattle.answer.specs.declared.Answer.the-variants.{WrongShape, TooManyEvents}
@@ -10,7 +11,7 @@ use Rattle.answer.specs.Table.{eventLimit}
 use Rattle.rules.specs.Theorems.{codeOf}
 use Rattle.judge.specs.declared.State.{State}
 use Rattle.judge.specs.AsLeft.{placeLength, ended}
-use Rattle.judge.specs.Step.{isSound, goesOn, lengthsOf, counted}
+use Rattle.judge.specs.Step.{isNoVerdict, isSound, goesOn, lengthsOf, counted}
 
 -- ---- The numbers of a sound state.
 pub record Bounded (s : State) : Type 0 where
@@ -81,3 +82,16 @@ module _ (s : State) where
     pub counted-kept : ¬ (codeOf (s .refusal) ≡ 0) → counted s ≡ ended (lengthsOf s) (s .events + 1) (s .refusal)
     unfolding counted
     counted-kept h = rw (lt-ltb (s .events) eventLimit few, ne-eqb (codeOf (s .refusal)) 0 h)
+
+  -- whatever is counted, a refusal stands
+  pub counted-refusal : isNoVerdict (counted s .refusal) ≡ false
+  unfolding counted
+  counted-refusal = by-tests (ltb (s .events) eventLimit) (isNoVerdict (s .refusal)) refl
+    where
+      by-tests : (few none : Bool) → isNoVerdict (s .refusal) ≡ none
+          → isNoVerdict (cond few (ended (lengthsOf s) (s .events + 1) (cond none WrongShape (s .refusal)))
+          (ended (lengthsOf s) (suc eventLimit) TooManyEvents) .refusal)
+          ≡ false
+      by-tests true true h = refl
+      by-tests true false h = h
+      by-tests false none h = refl

@@ -1,27 +1,28 @@
 -- The theorems of specs/Theorems.antt.
 -- Assumes nothing.
-use Prim.Native.Nat.{ℕ, suc, _+_}
 use native.Mathlib.Omega.{arith}
 use mathlib.Core.Path.{_≡_, refl, sym, ap, subst, _∙_}
 use mathlib.Core.Bool.{Bool, true, false, cond}
 use mathlib.Core.List.{List, [], _∷_, _++_, append-nil, append-assoc}
-use lib.Dec.{leb, ltb}
+use lib.Dec.{leb}
 use borrow.Author.Tests.{leb-true}
 use Rattle.answer.specs.declared.Answer.{Answer}
 use Rattle.answer.specs.declared.Answer.the-variants as answer
 use Rattle.answer.specs.Numbers.{numbersOf}
-use Rattle.answer.specs.Table.{eventLimit, fit}
+use Rattle.answer.specs.Table.{fit}
 use Rattle.answer.proofs.Both.{both}
 use Rattle.decoder.specs.declared.Item.{Item}
 use Rattle.rules.specs.Faults.{Lengths}
 use Rattle.rules.specs.Theorems.{codeOf, IsAccepted}
+use Rattle.rules.proofs.Files.{answer-recorded}
 use Rattle.judge.specs.declared.State.{State}
-use Rattle.judge.specs.AsLeft.{ended, AsLeft}
-use Rattle.judge.specs.Step.{isNoVerdict, isRefusal, isSound, opened, answerIn, lengthsOf, counted, After, leaving, stepOf}
-use Rattle.judge.specs.Theorems.{steps, StepsAnswer, BeginningAnswers, AccessesAndCommitsChangeNone, OperationsChangeTheirRecord, RefusalsChangeNone, OneRecordEach, WordsPastStay, AnyStateAnswers, FaultsShow}
+use Rattle.judge.specs.AsLeft.{AsLeft}
+use Rattle.judge.specs.Step.{isNoVerdict, isRefusal, isSound, opened, answerIn, counted, After, leaving, stepOf}
+use Rattle.judge.specs.Theorems.{steps, StepsAnswer, BeginningAnswers, StepsAnswerFiles, PlacesFit, RefusalsChangeNone, AccessesAndCommitsChangeNone, OperationsChangeTheirRecord, WaitsKeepRecords, OneRecordEach, WordsPastStay, AnyStateAnswers, FaultsShow}
+use Rattle.judge.proofs.Sound.{counted-refusal}
 use Rattle.judge.proofs.Beginnings.{beginning-answers}
 use Rattle.judge.proofs.Carrying.{step-carries, step-counted}
-use Rattle.judge.proofs.Places.{none-changed, one-put, refusal-unchanged, past-unchanged, one-each}
+use Rattle.judge.proofs.Places.{refusal-unchanged, none-changed, record-put, records-kept, past-unchanged, one-each}
 use Rattle.judge.proofs.Telling.{opening-left, told, told-left}
 
 -- ---- the answers
@@ -41,22 +42,35 @@ unfolding StepsAnswer
 stepsAnswer lengths items ranges marks long-ranges long-marks =
     told-left (steps-left items [] (leaving (opened lengths) ranges marks) (opening-left lengths ranges marks long-ranges long-marks))
 
+pub stepsAnswerFiles : StepsAnswerFiles
+unfolding StepsAnswerFiles StepsAnswer
+stepsAnswerFiles f lengths items ranges marks holds long-ranges long-marks =
+    stepsAnswer lengths items ranges marks long-ranges long-marks ∙ sym (answer-recorded f _ items holds)
+
 pub beginningAnswers : BeginningAnswers
 unfolding BeginningAnswers
 beginningAnswers = beginning-answers
 
 -- ---- the places
+pub placesFit : PlacesFit
+unfolding PlacesFit
+placesFit = omega arith
+
+pub refusalsChangeNone : RefusalsChangeNone
+unfolding RefusalsChangeNone
+refusalsChangeNone item s ranges marks = refusal-unchanged s ranges marks item
+
 pub accessesAndCommitsChangeNone : AccessesAndCommitsChangeNone
 unfolding AccessesAndCommitsChangeNone
 accessesAndCommitsChangeNone e s ranges marks = none-changed s ranges marks e
 
 pub operationsChangeTheirRecord : OperationsChangeTheirRecord
 unfolding OperationsChangeTheirRecord
-operationsChangeTheirRecord e s ranges marks = one-put s ranges marks e
+operationsChangeTheirRecord e s ranges marks = record-put s ranges marks e
 
-pub refusalsChangeNone : RefusalsChangeNone
-unfolding RefusalsChangeNone
-refusalsChangeNone lengths items item s ranges marks left = refusal-unchanged left item
+pub waitsKeepRecords : WaitsKeepRecords
+unfolding WaitsKeepRecords
+waitsKeepRecords e s ranges marks = records-kept s ranges marks e
 
 pub oneRecordEach : OneRecordEach
 unfolding OneRecordEach
@@ -64,7 +78,7 @@ oneRecordEach = one-each
 
 pub wordsPastStay : WordsPastStay
 unfolding WordsPastStay
-wordsPastStay lengths items item s ranges marks left = past-unchanged left item
+wordsPastStay item s ranges marks = past-unchanged s ranges marks item
 
 -- ---- states that no judge leaves
 pub anyStateAnswers : AnyStateAnswers
@@ -87,30 +101,18 @@ not-sound s h = by-refusal (isNoVerdict (s .refusal))
     by-refusal false e = not-one (s .refusal) (isRefusal (s .refusal)) refl e
 
 -- after a refusal nothing is accepted
-ended-refuses : (lengths : Lengths) (n : ℕ) (a : Answer) → isNoVerdict a ≡ false → ¬ IsAccepted (answerIn (ended lengths n a))
+some-refused : (s : State) → isNoVerdict (s .refusal) ≡ false → ¬ IsAccepted (answerIn s)
 unfolding answerIn
-ended-refuses lengths n a h e = not-one a (isRefusal a) refl (sym (ap codeOf (by-test (isNoVerdict a) h)) ∙ e)
-  where
-    by-test : (t : Bool) → t ≡ false
-        → cond t (cond (isSound (ended lengths n a)) (answer.Accepted n 0) answer.WrongShape) (cond (isRefusal a) a answer.WrongShape)
-        ≡ cond (isRefusal a) a answer.WrongShape
-    by-test t q = rw q
-
-counted-refuses : (s : State) → ¬ IsAccepted (answerIn (counted s))
-unfolding counted
-counted-refuses s = by-tests (ltb (s .events) eventLimit) (isNoVerdict (s .refusal)) refl
-  where
-    by-tests : (few none : Bool) → isNoVerdict (s .refusal) ≡ none
-        → ¬ IsAccepted (answerIn (cond few (ended (lengthsOf s) (s .events + 1) (cond none answer.WrongShape (s .refusal)))
-        (ended (lengthsOf s) (suc eventLimit) answer.TooManyEvents)))
-    by-tests true true h = ended-refuses (lengthsOf s) (s .events + 1) answer.WrongShape refl
-    by-tests true false h = ended-refuses (lengthsOf s) (s .events + 1) (s .refusal) h
-    by-tests false none h = ended-refuses (lengthsOf s) (suc eventLimit) answer.TooManyEvents refl
+some-refused s h e =
+    not-one (s .refusal) (isRefusal (s .refusal)) refl
+    (sym (ap (λ t. codeOf (cond t (cond (isSound s) (answer.Accepted (s .events) (s .peak)) answer.WrongShape)
+    (cond (isRefusal (s .refusal)) (s .refusal) answer.WrongShape))) h) ∙ e)
 
 pub faultsShow : FaultsShow
 unfolding FaultsShow
 faultsShow = (
   not-sound,
+  some-refused,
   λ item s ranges marks stops. subst (λ (a : After). ¬ IsAccepted (answerIn (a .state)))
-      (sym (step-counted s ranges marks item stops)) (counted-refuses s),
+      (sym (step-counted s ranges marks item stops)) (some-refused (counted s) (counted-refusal s)),
 )

@@ -1,9 +1,8 @@
 -- What holds of the judge. Each statement is a type; proofs/Theorems.antt proves it, as `stepsAnswer : StepsAnswer`.
 use Prim.Native.Nat.{ℕ, _+_, _*_, _≤_}
 use mathlib.Core.Path.{_≡_}
-use mathlib.Core.Bool.{Bool, true, false, _||_}
-use mathlib.Core.List.{List, [], _∷_, _++_, map}
-use mathlib.Core.Logic.{_⊎_}
+use mathlib.Core.Bool.{Bool, true, false, not, _||_}
+use mathlib.Core.List.{List, [], _∷_, map}
 use lib.ListN.{length, take, drop}
 use lib.Seq.{sets}
 use Rattle.answer.specs.Table.{eventLimit}
@@ -13,15 +12,20 @@ use Rattle.event.specs.declared.Event.the-variants.{Load, Store, Copy, Commit, 
 use Rattle.decoder.specs.declared.Item.{Item}
 use Rattle.decoder.specs.declared.Item.the-variants.{Decoded}
 use Rattle.operations.specs.declared.Record.{Record}
-use Rattle.operations.specs.Table.{rangeWords, markWords, records}
+use Rattle.operations.specs.declared.Wait as operations
+use Rattle.operations.specs.Table.{rangeWords, markWords, records, placed}
+use Rattle.operations.specs.Waiting.{kept}
+use Rattle.parts.specs.declared.GroupsMade.{GroupsMade}
+use Rattle.parts.specs.declared.Part.the-variants as part
+use Rattle.parts.specs.Parts.{partOf}
 use Rattle.rules.specs.Closing.{isOperation}
 use Rattle.rules.specs.Faults.{Lengths}
 use Rattle.rules.specs.Peak.{openAfter}
 use Rattle.rules.specs.Answers.{answerOf, answerOfFile}
-use Rattle.rules.specs.Theorems.{answerTo, IsAccepted}
+use Rattle.rules.specs.Theorems.{answerTo, IsAccepted, Records}
 use Rattle.judge.specs.declared.State.{State}
 use Rattle.judge.specs.AsLeft.{placeLength, openRecords, AsLeft}
-use Rattle.judge.specs.Step.{isSound, opened, answerIn, goesOn, After, leaving, stepOf}
+use Rattle.judge.specs.Step.{isNoVerdict, isSound, opened, answerIn, goesOn, After, leaving, stepOf}
 use Rattle.judge.specs.Beginnings.{answerOfBeginning}
 
 -- ---- The answers.
@@ -39,13 +43,24 @@ StepsAnswer =
     → placeLength ≤ length ranges → placeLength ≤ length marks
     → answerIn (steps items (leaving (opened lengths) ranges marks) .state) ≡ answerOf lengths items
 
--- The first 12 + 28 bytes for each event of the limit, and the length, tell a file's answer.
+-- So a host that steps through the items of a file has the file's answer.
+unfoldable pub StepsAnswerFiles : Type 0
+StepsAnswerFiles =
+    (f : List ℕ) (lengths : Lengths) (items : List Item) (ranges marks : List ℕ) → Records f lengths items
+    → placeLength ≤ length ranges → placeLength ≤ length marks
+    → answerIn (steps items (leaving (opened lengths) ranges marks) .state) ≡ answerOfFile f
+
+-- The first bytes of a file, 12 and 28 more for each event of the limit, and its length tell its answer.
 unfoldable pub BeginningAnswers : Type 0
 BeginningAnswers =
     (file : List ℕ) (held : ℕ) → 12 + 28 * eventLimit ≤ held
     → answerOfBeginning (take held file) (length file) ≡ answerOfFile file
 
--- ---- The places.
+-- ---- The places, whatever the state and their words.
+
+-- A word has four bytes, and a place at most 64 KiB.
+unfoldable pub PlacesFit : Type 0
+PlacesFit = 4 * placeLength ≤ 65536
 
 abbrev pub isWait : Event → Bool
 isWait (Load address size) = false
@@ -63,41 +78,51 @@ isWait (BulkWait n) = true
 abbrev pub Unchanged : List ℕ → List ℕ → After → Type 0
 Unchanged ranges marks after = (after .ranges ≡ ranges) × (after .marks ≡ marks)
 
--- A load, a store and a commit change none, whatever the state and the places.
+-- A refusal stands when the step is done.
+abbrev pub refuses : After → Bool
+refuses after = not (isNoVerdict (after .state .refusal))
+
+-- A refused event changes none, nor does one that comes after a refusal or is not judged ..
+unfoldable pub RefusalsChangeNone : Type 0
+RefusalsChangeNone =
+    (item : Item) (s : State) (ranges marks : List ℕ) → refuses (stepOf item s ranges marks) ≡ true
+    → Unchanged ranges marks (stepOf item s ranges marks)
+
+-- .. a load, a store and a commit change none ..
 unfoldable pub AccessesAndCommitsChangeNone : Type 0
 AccessesAndCommitsChangeNone =
     (e : Event) (s : State) (ranges marks : List ℕ) → (isOperation e || isWait e) ≡ false
     → Unchanged ranges marks (stepOf (Decoded e) s ranges marks)
 
--- An operation changes none, or just the words of its own record, behind those of the open operations.
+-- .. an operation changes the words of its own record alone, behind those of the open operations ..
 unfoldable pub OperationsChangeTheirRecord : Type 0
 OperationsChangeTheirRecord =
-    (e : Event) (s : State) (ranges marks : List ℕ) → isOperation e ≡ true
-    → Unchanged ranges marks (stepOf (Decoded e) s ranges marks)
-    ⊎ ((r : Record) × (stepOf (Decoded e) s ranges marks .ranges ≡ sets ranges (4 * s .unclosed) (rangeWords r))
-    × (stepOf (Decoded e) s ranges marks .marks ≡ sets marks (4 * s .unclosed) (markWords r)))
+    (e : Event) (s : State) (ranges marks : List ℕ) → isOperation e ≡ true → refuses (stepOf (Decoded e) s ranges marks) ≡ false
+    → (r : Record) × (partOf (s .events) (s .made) e ≡ part.Operation r)
+    × (stepOf (Decoded e) s ranges marks .ranges ≡ sets ranges (4 * s .unclosed) (rangeWords r))
+    × (stepOf (Decoded e) s ranges marks .marks ≡ sets marks (4 * s .unclosed) (markWords r))
 
--- As the judge left them: an item with which the list is refused changes none ..
-unfoldable pub RefusalsChangeNone : Type 0
-RefusalsChangeNone =
-    (lengths : Lengths) (items : List Item) (item : Item) (s : State) (ranges marks : List ℕ)
-    → AsLeft lengths items s ranges marks → ¬ IsAccepted (answerOf lengths (items ++ item ∷ []))
-    → Unchanged ranges marks (stepOf item s ranges marks)
+-- .. a wait puts the kept records first, in order, and leaves the words past them ..
+unfoldable pub WaitsKeepRecords : Type 0
+WaitsKeepRecords =
+    (e : Event) (s : State) (ranges marks : List ℕ) → isWait e ≡ true → refuses (stepOf (Decoded e) s ranges marks) ≡ false
+    → (made : GroupsMade) × (wait : operations.Wait) × (partOf (s .events) (s .made) e ≡ part.Wait made wait)
+    × (stepOf (Decoded e) s ranges marks .ranges ≡ placed rangeWords (kept wait (records (s .unclosed) ranges marks)) ranges)
+    × (stepOf (Decoded e) s ranges marks .marks ≡ placed markWords (kept wait (records (s .unclosed) ranges marks)) marks)
 
--- .. while nothing is refused, the table has one record for each open operation, in event order ..
+-- .. and the words past the stated length stay.
+unfoldable pub WordsPastStay : Type 0
+WordsPastStay =
+    (item : Item) (s : State) (ranges marks : List ℕ)
+    → (drop placeLength (stepOf item s ranges marks .ranges) ≡ drop placeLength ranges)
+    × (drop placeLength (stepOf item s ranges marks .marks) ≡ drop placeLength marks)
+
+-- As the judge left them while nothing is refused: one record for each open operation, in event order.
 unfoldable pub OneRecordEach : Type 0
 OneRecordEach =
     (lengths : Lengths) (es : List Event) (s : State) (ranges marks : List ℕ)
     → AsLeft lengths (map Decoded es) s ranges marks → IsAccepted (answerTo lengths es)
     → (s .unclosed ≡ openAfter es (length es)) × (records (s .unclosed) ranges marks ≡ openRecords es (length es) (length es))
-
--- .. and the words past the stated length stay.
-unfoldable pub WordsPastStay : Type 0
-WordsPastStay =
-    (lengths : Lengths) (items : List Item) (item : Item) (s : State) (ranges marks : List ℕ)
-    → AsLeft lengths items s ranges marks
-    → (drop placeLength (stepOf item s ranges marks .ranges) ≡ drop placeLength ranges)
-    × (drop placeLength (stepOf item s ranges marks .marks) ≡ drop placeLength marks)
 
 -- ---- States and places that no judge leaves.
 
@@ -105,10 +130,11 @@ WordsPastStay =
 unfoldable pub AnyStateAnswers : Type 0
 AnyStateAnswers = (s : State) → Given (answerIn s)
 
--- Where numbers are out of bounds nothing is accepted, and a step that does not judge, be it for such numbers or for places that
--- are too short, leaves a state that is not accepted.
+-- Nothing is accepted where numbers are out of bounds, where something stands for a refusal, or after a step that does not judge,
+-- be it for these or for places that are too short.
 unfoldable pub FaultsShow : Type 0
 FaultsShow =
     ((s : State) → isSound s ≡ false → ¬ IsAccepted (answerIn s))
+    × ((s : State) → isNoVerdict (s .refusal) ≡ false → ¬ IsAccepted (answerIn s))
     × ((item : Item) (s : State) (ranges marks : List ℕ) → goesOn s (length ranges) (length marks) ≡ false
     → ¬ IsAccepted (answerIn (stepOf item s ranges marks .state)))

@@ -49,6 +49,14 @@ kept-append wait (r ∷ rs) ss = rw (kept-append wait rs ss) (by-test (staysOpen
     by-test true = refl
     by-test false = refl
 
+pub kept-fewer : (wait : Wait) (rs : List Record) → length (kept wait rs) ≤ length rs
+kept-fewer wait [] = omega arith
+kept-fewer wait (r ∷ rs) = by-test (staysOpen wait r) (kept-fewer wait rs)
+  where
+    by-test : (t : Bool) → length (kept wait rs) ≤ length rs → length (cond t (r ∷ kept wait rs) (kept wait rs)) ≤ suc (length rs)
+    by-test true h = omega arith
+    by-test false h = omega arith
+
 module _ (wait : Wait) (ranges₀ marks₀ : List ℕ) where
   -- what is kept of the first k records
   abbrev pub keptOf : ℕ → List Record

@@ -113,6 +113,13 @@ module _ (rs : List Record) (ranges marks : List ℕ) where
   first-records zero d h = refl
   first-records (suc k) d h = rw (first-records k d (omega arith), record-in k d (omega arith)) (sym (take-suc rs k d (omega arith)))
 
+-- So many records are read.
+pub length-records : (n : ℕ) (ranges marks : List ℕ) → length (records n ranges marks) ≡ n
+unfolding records
+length-records zero ranges marks = refl
+length-records (suc n) ranges marks =
+    length-append (records n ranges marks) (recordAt ranges marks n ∷ []) ∙ omega (arith, length-records n ranges marks)
+
 -- The records of such places are these.
 pub records-placed : (rs : List Record) (ranges marks : List ℕ)
     → records (length rs) (placed rangeWords rs ranges) (placed markWords rs marks) ≡ rs

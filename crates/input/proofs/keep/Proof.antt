@@ -9,10 +9,6 @@ use Rattle.input.proofs.Kept.{kept-copied, none-kept}
 use borrow.Author.Needs.{needs}
 use Rattle.input.proofs.keep.Statement.{statement}
 use Rattle.input.proofs.keep.Tie as tie
-use Rattle.input.proofs.keep.Reads as reads
-use Rattle.input.proofs.keep.Lts as lts
-use Rattle.bytes.proofs.copy.Reads as copy-reads
-use Rattle.input.proofs.least.Reads as least-reads
 
 sub-least : tie.Need-sub-least
 sub-least c = search needs

@@ -7,13 +7,6 @@ use lib.ListN.{length}
 use borrow.Author.Needs.{needs}
 use Rattle.input.proofs.read.Statement.{statement}
 use Rattle.input.proofs.read.Tie as tie
-use Rattle.input.proofs.read.Reads as reads
-use Rattle.input.proofs.read.Lts as lts
-use Rattle.input.proofs.keep.Reads as keep-reads
-use Rattle.input.proofs.least.Reads as least-reads
-use Rattle.io.proofs.count.Reads as count-reads
-use Rattle.io.proofs.large_buffer.Reads as large-buffer-reads
-use Rattle.libc.proofs.read.Reads as read-reads
 
 abbrev Inv-loop : tie.InvT-loop
 Inv-loop fd beginning₀ total₀ pieces₀ beginning total pieces = (total ≤ 65536 * pieces) × (length beginning ≡ length beginning₀)
