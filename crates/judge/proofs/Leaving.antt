@@ -57,7 +57,7 @@ module _ (lengths : Lengths) (items : List Item) where
   unfolding openOf
   open-accepted h = rw h
 
-  pub open-refused : isAccepted (answerOf lengths items) ≡ false → openOf lengths items ≡ []
+  open-refused : isAccepted (answerOf lengths items) ≡ false → openOf lengths items ≡ []
   unfolding openOf
   open-refused h = rw h
 
@@ -123,19 +123,6 @@ module _ (lengths : Lengths) (items : List Item) (item : Item) (ranges marks : L
 few-records : (es : List Event) → length es ≤ eventLimit → 4 * length (openAt es) ≤ placeLength
 few-records es few =
     omega (arith, length-open es (length es) (length es), count-most (isOpen es (length es)) (length es))
-
--- no list has more
-pub few-open : (lengths : Lengths) (items : List Item) → 4 * length (openOf lengths items) ≤ placeLength
-few-open lengths items = by-test (isAccepted (answerOf lengths items)) refl
-  where
-    by-test : (t : Bool) → isAccepted (answerOf lengths items) ≡ t → 4 * length (openOf lengths items) ≤ placeLength
-    by-test true e =
-        let v = accepted-items lengths items (eqb-true (codeOf (answerOf lengths items)) 1 e) in
-        let same = ap eventsOf (v .are) ∙ events-again (v .events) in
-        let h : IsAccepted (answerTo lengths (v .events)) = rw (v .are) at (eqb-true (codeOf (answerOf lengths items)) 1 e) in
-        let few = few-records (v .events) (accepted-well-formed lengths (v .events) h .limits .events) in
-        omega (arith, few, ap length (open-accepted lengths items e ∙ ap openAt same))
-    by-test false e = omega (arith, ap length (open-refused lengths items e))
 
 -- either place, when records are put first
 placed-again : (words : Record → List ℕ) → ((r : Record) → length (words r) ≡ 4) → (rs : List Record) (place place′ : List ℕ)
