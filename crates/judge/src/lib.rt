@@ -13,7 +13,7 @@ use parts::GroupsMade;
 // The words of each lent place: four for each operation that can be open.
 pub const PLACE_LENGTH: usize = 4 * (EVENT_LIMIT as usize);
 
-// The judge between two events. Once an event is refused, it only counts those that follow.
+// The judge between two events. Once something is refused, it only counts the events that follow.
 pub struct State {
     pub events: u32,
     // The largest number of operations open after any event, and how many are open now.

@@ -24,7 +24,8 @@ pub record ShareByte (a b : Range) : Type 0 where
 unfoldable pub shareByte : Range → Range → Bool
 shareByte a b = ltb (max (a .start) (b .start)) (min (a .start + a .length) (b .start + b .length))
 
--- Two records that write the same memory read the other one.
+-- Two records that write the same memory read the other one, so they can meet only in what both write; others, only in what
+-- one writes and the other reads.
 unfoldable pub clashOf : Record → Record → Bool
 clashOf event operation =
     not (mayShare (event .tag) (operation .tag))

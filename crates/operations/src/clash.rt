@@ -26,7 +26,8 @@ pub(crate) fn overlap(a: Range, b: Range) -> bool
     }
 }
 
-// Two records that write the same memory read the other one.
+// Two records that write the same memory read the other one, so they can meet only in what both write; others, only in
+// what one writes and the other reads.
 pub(crate) fn sharing(event: Record, operation: Record) -> Sharing
     ensures { λ r. ⌜ r .clash ≡ clashOf event operation ⌝ }
 {

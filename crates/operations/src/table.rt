@@ -50,7 +50,7 @@ pub fn put(ranges: &mut [u32], marks: &mut [u32], index: u32, operation: Record)
     marks[word + 3] = 0;
 }
 
-// The lowest event among the first `count` records that the event clashes with.
+// The event of the first record, of so many, that the event clashes with: with records in event order, the lowest.
 pub fn first_clash(ranges: &[u32], marks: &[u32], count: u32, event: Record) -> Partner
     requires { ⌜ (4 * count ≤ length (now ranges)) × (4 * count ≤ length (now marks)) ⌝ }
     ensures { λ r. ⌜ r ≡ firstClash event (records count (now (ranges .entry)) (now (marks .entry))) ⌝ }

@@ -34,7 +34,7 @@ abbrev pub accessPart : ℕ → Range → Range → ℕ → Part
 accessPart number writes reads tag =
     part.Access (record { writes = writes; reads = reads; event = number; commits = 0; tag = tag })
 
--- A load from global memory has the tag of a copy, which reads there too, and writes nothing; so it is with the others.
+-- A load from global memory writes nothing and has the tag of a copy, which reads there too; the others have theirs likewise.
 abbrev pub loadPart : ℕ → Address → ℕ → Part
 loadPart number (Global at) size = accessPart number (bytes 0 0) (bytes (at .0) size) copyTag
 loadPart number (Shared at) size = accessPart number (bytes 0 0) (bytes (at .0) size) bulkTag

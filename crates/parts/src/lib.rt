@@ -89,7 +89,8 @@ pub fn part_of(number: u32, made: GroupsMade, event: Event) -> Part
     }
 }
 
-// A load from global memory has the tag of a copy, which reads there too, and writes nothing; so it is with the others.
+// A load from global memory writes nothing and has the tag of a copy, which reads there too; the others have theirs
+// likewise.
 fn load(number: u32, address: Address, size: u32) -> Part
     ensures { λ r. ⌜ r ≡ loadPart number address size ⌝ }
 {
@@ -108,7 +109,7 @@ fn store(number: u32, address: Address, size: u32) -> Part
     }
 }
 
-// No group closes an access of the thread.
+// No wait closes an access of the thread.
 fn access(number: u32, writes: Range, reads: Range, tag: u32) -> Part
     ensures { λ r. ⌜ r ≡ accessPart number writes reads tag ⌝ }
 {
