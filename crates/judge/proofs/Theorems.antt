@@ -13,15 +13,17 @@ use Rattle.answer.specs.Table.{fit}
 use Rattle.answer.proofs.Both.{both}
 use Rattle.decoder.specs.declared.Item.{Item}
 use Rattle.rules.specs.Faults.{Lengths}
+use Rattle.rules.specs.Answers.{answerOf}
 use Rattle.rules.specs.Theorems.{codeOf, IsAccepted}
 use Rattle.rules.proofs.Files.{answer-recorded}
 use Rattle.judge.specs.declared.State.{State}
 use Rattle.judge.specs.AsLeft.{AsLeft}
 use Rattle.judge.specs.Step.{isNoVerdict, isRefusal, isSound, opened, answerIn, counted, After, leaving, stepOf}
-use Rattle.judge.specs.Theorems.{steps, StepsAnswer, BeginningAnswers, StepsAnswerFiles, PlacesFit, RefusalsChangeNone, AccessesAndCommitsChangeNone, OperationsChangeTheirRecord, WaitsKeepRecords, OneRecordEach, WordsPastStay, AnyStateAnswers, FaultsShow}
+use Rattle.judge.specs.Theorems.{steps, StepsAnswer, BeginningAnswers, StepsAnswerFiles, PlacesFit, RefusalsChangeNone, AccessesAndCommitsChangeNone, OperationsChangeTheirRecord, WaitsKeepRecords, OneRecordEach, WordsPastStay, AnyStateAnswers, FaultsShow, without, LostRefusalsShow}
 use Rattle.judge.proofs.Sound.{counted-refusal}
 use Rattle.judge.proofs.Beginnings.{beginning-answers}
 use Rattle.judge.proofs.Carrying.{step-carries, step-counted}
+use Rattle.judge.proofs.Leaving.{How, passing, over, how}
 use Rattle.judge.proofs.Places.{refusal-unchanged, none-changed, record-put, records-kept, past-unchanged, one-each}
 use Rattle.judge.proofs.Telling.{opening-left, told, told-left}
 
@@ -108,6 +110,11 @@ some-refused s h e =
     (sym (ap (λ t. codeOf (cond t (cond (isSound s) (answer.Accepted (s .events) (s .peak)) answer.WrongShape)
     (cond (isRefusal (s .refusal)) (s .refusal) answer.WrongShape))) h) ∙ e)
 
+-- one open and a peak of 0
+odd : (s : State) → s .unclosed ≡ 1 → s .peak ≡ 0 → isSound s ≡ false
+unfolding isSound
+odd s one none = rw (one, none)
+
 pub faultsShow : FaultsShow
 unfolding FaultsShow
 faultsShow = (
@@ -116,3 +123,11 @@ faultsShow = (
   λ item s ranges marks stops. subst (λ (a : After). ¬ IsAccepted (answerIn (a .state)))
       (sym (step-counted s ranges marks item stops)) (some-refused (counted s) (counted-refusal s)),
 )
+
+pub lostRefusalsShow : LostRefusalsShow
+unfolding LostRefusalsShow
+lostRefusalsShow lengths items s ranges marks left refused = by-way (how left)
+  where
+    by-way : How lengths items s ranges marks → ¬ IsAccepted (answerIn (without s))
+    by-way (passing es are h state in-ranges in-marks) = absurd (refused (ap (λ l. codeOf (answerOf lengths l)) are ∙ h))
+    by-way (over h state) = not-sound (without s) (odd (without s) (ap (λ (t : State). t .unclosed) state) (ap (λ (t : State). t .peak) state))

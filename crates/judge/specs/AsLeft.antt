@@ -62,12 +62,13 @@ tracking lengths es = record {
   refusal = NoVerdict;
 }
 
--- After a refusal, of so many events: they are counted, and nothing is kept of them.
+-- After a refusal, of so many events: they are counted, and nothing is kept of them. More is open than peak, as it never is while
+-- nothing is refused: so a state whose refusal got lost is not taken for one that has refused nothing.
 abbrev pub ended : Lengths → ℕ → Answer → State
 ended lengths events refusal = record {
   events = events;
   peak = 0;
-  unclosed = 0;
+  unclosed = 1;
   made = record { copies = 0; bulk = 0 };
   global = lengths .global;
   shared = lengths .shared;

@@ -5,6 +5,7 @@ use mathlib.Core.Bool.{Bool, true, false, not, _||_}
 use mathlib.Core.List.{List, [], _∷_, map}
 use lib.ListN.{length, take, drop}
 use lib.Seq.{sets}
+use Rattle.answer.specs.declared.Answer.the-variants.{NoVerdict}
 use Rattle.answer.specs.Table.{eventLimit}
 use Rattle.answer.specs.Theorems.{Given}
 use Rattle.event.specs.declared.Event.{Event}
@@ -138,3 +139,22 @@ FaultsShow =
     × ((s : State) → isNoVerdict (s .refusal) ≡ false → ¬ IsAccepted (answerIn s))
     × ((item : Item) (s : State) (ranges marks : List ℕ) → goesOn s (length ranges) (length marks) ≡ false
     → ¬ IsAccepted (answerIn (stepOf item s ranges marks .state)))
+
+-- The state without what it holds for a refusal.
+abbrev pub without : State → State
+without s = record {
+  events = s .events;
+  peak = s .peak;
+  unclosed = s .unclosed;
+  made = s .made;
+  global = s .global;
+  shared = s .shared;
+  refusal = NoVerdict;
+}
+
+-- A state that the judge left after a refusal, and whose refusal got lost, is not accepted.
+unfoldable pub LostRefusalsShow : Type 0
+LostRefusalsShow =
+    (lengths : Lengths) (items : List Item) (s : State) (ranges marks : List ℕ)
+    → AsLeft lengths items s ranges marks → ¬ IsAccepted (answerOf lengths items)
+    → ¬ IsAccepted (answerIn (without s))

@@ -21,19 +21,19 @@ impl State {
         ensures { λ r. ⌜ r ≡ opened (record { global = global; shared = shared }) ⌝ }
         ensures { λ r. ⌜ ((ranges marks : List ℕ) → placeLength ≤ length ranges → placeLength ≤ length marks → AsLeft (record { global = global; shared = shared }) [] r ranges marks) ⌝ }
     {
-        let refusal = if (global <= MEMORY_LIMIT) & (shared <= MEMORY_LIMIT) {
-            Answer::NoVerdict
-        } else {
-            Answer::WrongMemoryLength
-        };
-        State {
+        let state = State {
             events: 0,
             peak: 0,
             unclosed: 0,
             made: GroupsMade { copies: 0, bulk: 0 },
             global,
             shared,
-            refusal,
+            refusal: Answer::NoVerdict,
+        };
+        if (global <= MEMORY_LIMIT) & (shared <= MEMORY_LIMIT) {
+            state
+        } else {
+            state.ended(0, Answer::WrongMemoryLength)
         }
     }
 

@@ -85,14 +85,15 @@ impl State {
         self.ended(events, refusal)
     }
 
-    // The state after a refusal: nothing is kept of the events but their number.
-    fn ended(self, events: u32, refusal: Answer) -> State
+    // The state after a refusal: nothing is kept of the events but their number. More is open than peak, so that a state
+    // whose refusal got lost shows.
+    pub(crate) fn ended(self, events: u32, refusal: Answer) -> State
         ensures { λ r. ⌜ r ≡ ended (lengthsOf self) events refusal ⌝ }
     {
         State {
             events,
             peak: 0,
-            unclosed: 0,
+            unclosed: 1,
             made: GroupsMade { copies: 0, bulk: 0 },
             global: self.global,
             shared: self.shared,
