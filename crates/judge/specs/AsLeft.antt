@@ -1,6 +1,6 @@
 -- A state and two places as the judge leaves them after a list of items: every number of the state, and the words that stand
--- first in the places. That this is right need not be believed: the opening state and places of any contents are so for the empty list, a
--- step carries it on, and the answer of such a state is that of the rules; by theorem `StepsAnswer` it drops out.
+-- first in the places. That this is right need not be believed: the opening state and places of any contents are so for the
+-- empty list, a step carries it on, and the answer of such a state is that of the rules; by theorem `StepsAnswer` it drops out.
 use Prim.Native.Nat.{ℕ, zero, suc, _*_, _≤_, min}
 use mathlib.Core.Path.{_≡_}
 use mathlib.Core.Bool.{Bool, cond}
