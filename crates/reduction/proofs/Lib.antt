@@ -1,0 +1,2 @@
+-- Laws of elements, over their width.
+pub mod Elements
