@@ -11,7 +11,9 @@ use Rattle.little_endian.specs.Number.{numberAt, bytesOf}
 use Rattle.little_endian.proofs.Widths.{length-bytes}
 use Rattle.event.specs.declared.ElementType.{ElementType}
 use Rattle.event.specs.declared.ElementType.the-variants.{B32, U32, S32}
-use Rattle.effect.specs.Element.{bound, width, elementIn, combineFirst}
+use Rattle.event.specs.declared.Operation.{Operation}
+use Rattle.effect.specs.Element.{bound, width, elementIn, combineFirst, reduce}
+use Rattle.effect.proofs.Elements.{length-combineFirst}
 
 -- ---- the element that starts at an index
 number-drop : (w at : ℕ) (bytes : List ℕ) (i : ℕ) → numberAt w (drop at bytes) i ≡ numberAt w bytes (at + i)
@@ -31,6 +33,11 @@ pub width-four : (element : ElementType) → width element ≡ 4
 width-four B32 = refl
 width-four U32 = refl
 width-four S32 = refl
+
+-- bytes that are whole elements stay as many
+pub length-reduce : (operation : Operation) (element : ElementType) (ds xs : List ℕ) → length ds % 4 ≡ 0
+    → length (reduce operation element ds xs) ≡ length ds
+length-reduce operation element ds xs whole = rw (length-combineFirst, width-four element) (omega arith)
 
 -- ---- one more
 module _ (w : ℕ) (f : ℕ → ℕ → ℕ) (xs : List ℕ) where
