@@ -35,6 +35,15 @@ all-events [] = refl
 all-events (e ∷ es) = all-events es
 
 module _ (lengths : Lengths) where
+  -- a list that ends in an item that does not decode is refused
+  stops : (item : ℕ → Item) (k : ℕ) → isDecoded (item k) ≡ false → ¬ IsAccepted (answerOf lengths (firstItems item (suc k)))
+  unfolding firstItems
+  stops item k bad h =
+      let v = accepted-items lengths (firstItems item (suc k)) h in
+      true≢false (sym (ap allDecoded (v .are) ∙ all-events (v .events))
+      ∙ all-append (firstItems item k) (item k ∷ []) ∙ ap (λ t. allDecoded (firstItems item k) && (t && true)) bad
+      ∙ and-false (allDecoded (firstItems item k)))
+
   -- the answer is known at an item that does not decode
   known : (item : ℕ → Item) (k n : ℕ) → k < n → n ≤ eventLimit → isDecoded (item k) ≡ false
       → answerOf lengths (firstItems item n) ≡ answerOf lengths (firstItems item (suc k))
@@ -44,14 +53,7 @@ module _ (lengths : Lengths) where
       let all : suc k + (n - suc k) ≡ n = omega arith in
       let split : firstItems item n ≡ firstItems item (suc k) ++ rest = ap (firstItems item) (sym all) ∙ e in
       ap (answerOf lengths) split
-      ∙ refused-more lengths rest (firstItems item (suc k)) (omega (arith, ap length split, length-first item n)) refuses
-    where
-      refuses : ¬ IsAccepted (answerOf lengths (firstItems item (suc k)))
-      refuses h =
-          let v = accepted-items lengths (firstItems item (suc k)) h in
-          true≢false (sym (ap allDecoded (v .are) ∙ all-events (v .events))
-          ∙ all-append (firstItems item k) (item k ∷ []) ∙ ap (λ t. allDecoded (firstItems item k) && (t && true)) bad
-          ∙ and-false (allDecoded (firstItems item k)))
+      ∙ refused-more lengths rest (firstItems item (suc k)) (omega (arith, ap length split, length-first item n)) (stops item k bad)
 
   module _ (a b : ℕ → Item) where
     -- so far they are the same and decode, or they are the same up to one that does not
@@ -83,7 +85,33 @@ module _ (lengths : Lengths) where
         by-way (up-to k l e q h) =
             known b k n l few (ap isDecoded q ∙ h) ∙ ap (answerOf lengths) e ∙ sym (known a k n l few h)
 
+    -- and where they are accepted, they are the same
+    same-accepted : (n : ℕ) → n ≤ eventLimit → ((i : ℕ) → i < n → allDecoded (firstItems a i) ≡ true → b i ≡ a i)
+        → IsAccepted (answerOf lengths (firstItems b n)) → firstItems b n ≡ firstItems a n
+    same-accepted n few agree h = by-way (alike n agree)
+      where
+        by-way : Alike n → firstItems b n ≡ firstItems a n
+        by-way (same e d) = e
+        by-way (up-to k l e q bad) = absurd (stops b k (ap isDecoded q ∙ bad) (rw (known b k n l few (ap isDecoded q ∙ bad)) at h))
+
 -- ---- so the beginning of a file has the file's answer
+pub beginning-judged : (f : List ℕ) (k : ℕ) (header : Header) → 12 + 28 * eventLimit ≤ k → shapeOf eventLimit f (length f) ≡ Formed header
+    → answerOf (lengthsIn header) (firstItems (heldItemIn (take k f)) (header .events))
+    ≡ answerOf (lengthsIn header) (firstItems (itemIn f) (header .events))
+beginning-judged f k header enough e =
+    answers-agree (lengthsIn header) (itemIn f) (heldItemIn (take k f)) (header .events)
+    (counted eventLimit (length f) f header e .1)
+    (λ i few decoded. item-there eventLimit k f header i enough e few decoded)
+
+-- and, where it is accepted, the file's items
+pub beginning-items : (f : List ℕ) (k : ℕ) (header : Header) → 12 + 28 * eventLimit ≤ k → shapeOf eventLimit f (length f) ≡ Formed header
+    → IsAccepted (answerOf (lengthsIn header) (firstItems (heldItemIn (take k f)) (header .events)))
+    → firstItems (heldItemIn (take k f)) (header .events) ≡ firstItems (itemIn f) (header .events)
+beginning-items f k header enough e =
+    same-accepted (lengthsIn header) (itemIn f) (heldItemIn (take k f)) (header .events)
+    (counted eventLimit (length f) f header e .1)
+    (λ i few decoded. item-there eventLimit k f header i enough e few decoded)
+
 pub beginning-answers : (f : List ℕ) (k : ℕ) → 12 + 28 * eventLimit ≤ k
     → answerOfBeginning (take k f) (length f) ≡ answerOfFile f
 unfolding answerOfBeginning answerOfFile fileOf
@@ -96,10 +124,7 @@ beginning-answers f k enough =
     by-shape : (s : Shape) → shapeOf eventLimit f (length f) ≡ s
         → answerOfContents (heldContents (take k f) s) ≡ answerOfContents (contentsOf f s)
     by-shape (Refused answer) e = refl
-    by-shape (Formed header) e =
-        answers-agree (lengthsIn header) (itemIn f) (heldItemIn (take k f)) (header .events)
-        (counted eventLimit (length f) f header e .1)
-        (λ i few decoded. item-there eventLimit k f header i enough e few decoded)
+    by-shape (Formed header) e = beginning-judged f k header enough e
 
 -- and the whole file is a beginning of itself
 pub whole-answers : (f : List ℕ) → answerOfBeginning f (length f) ≡ answerOfFile f

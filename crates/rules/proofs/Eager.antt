@@ -48,7 +48,7 @@ module _ (all : List Event) where
       by-test false op ih = ap (runs (exec all) (actionsFrom (suc k) es)) (at-turn false op) ∙ ih (stepped k e s)
 
 -- ---- with what each event reads apart from the memories
-abbrev withRead : State → List (List ℕ) → State
+abbrev pub withRead : State → List (List ℕ) → State
 withRead m read = record { global = m .global; shared = m .shared; loaded = read }
 
 abbrev pub readBy : Effect → State → List ℕ
@@ -68,7 +68,7 @@ abbrev pub reads : List Event → State → List (List ℕ)
 reads [] m = []
 reads (e ∷ es) m = readBy (effectOf e) m ∷ reads es (stepped 0 e m)
 
-step-apart : (e : Effect) (m : State) (done rest : List (List ℕ)) (k : ℕ) → length done ≡ k
+pub step-apart : (e : Effect) (m : State) (done rest : List (List ℕ)) (k : ℕ) → length done ≡ k
     → does k e (withRead m (done ++ ([] ∷ rest))) ≡ withRead (does 0 e m) (done ++ (readBy e m ∷ rest))
 step-apart nothing m done rest k h = refl
 step-apart (load Global at size) m done rest k h = ap (withRead m) (set-at done [] rest _ k h)

@@ -37,7 +37,7 @@ use Rattle.rules.proofs.Lists.{accepted-clean, same-bytes, still-accept
 
 -- ---- the refusals of a shape are 2, 3 and 4
 module _ (P : Answer → Type 0) where
-  abbrev Refusals : Shape → Type 0
+  abbrev pub Refusals : Shape → Type 0
   Refusals (Formed header) = Unit {0}
   Refusals (Refused answer) = P answer
 
@@ -45,7 +45,7 @@ module _ (P : Answer → Type 0) where
   or-later true answer later p q = q
   or-later false answer later p q = p
 
-  of-shape : P WrongShape → P TooManyEvents → P WrongMemoryLength → (f : List ℕ) (total : ℕ)
+  pub of-shape : P WrongShape → P TooManyEvents → P WrongMemoryLength → (f : List ℕ) (total : ℕ)
       → Refusals (shapeOf eventLimit f total)
   unfolding shapeOf
   of-shape p q r f total =
@@ -137,7 +137,7 @@ accepted-file f h =
     (v .lengths, v .events, v .records, well-formed, clean)
 
 -- ---- more waiting
-few-recorded : (f : List ℕ) (header : Header) (items : List Item) → fileOf eventLimit f ≡ recorded header items
+pub few-recorded : (f : List ℕ) (header : Header) (items : List Item) → fileOf eventLimit f ≡ recorded header items
     → length items ≤ eventLimit
 few-recorded f header items e = by-reading (reading f) e
   where

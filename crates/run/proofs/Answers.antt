@@ -1,0 +1,259 @@
+-- The answer of a run, by what a file says; and a file's run, told by its beginning.
+-- Assumes nothing.
+use Prim.Native.Nat.{ℕ, _+_, _*_, _≤_, _<_}
+use native.Mathlib.Omega.{arith}
+use mathlib.Core.Path.{_≡_, refl, sym, ap, ap₂, subst, _∙_}
+use mathlib.Core.Bool.{Bool, true, false, not, _&&_, cond, true≢false}
+use mathlib.Core.List.{List, [], _∷_, map}
+use denote.Enum.Declared.{tagOf}
+use types.Run.{OneOf, miss}
+use lib.Dec.{eqb, leb, ltb}
+use lib.ListN.{length, take, length-take}
+use lib.Seq.{take-all}
+use borrow.Author.Tests.{eqb-true, eqb-false, eq-eqb, ne-eqb, le-leb, lt-leb, leb-true}
+use Rattle.answer.proofs.Answer.{the-type}
+use Rattle.answer.proofs.Both.{both}
+use Rattle.answer.specs.declared.Answer.{Answer}
+use Rattle.answer.specs.declared.Answer.the-variants as answer
+use Rattle.answer.specs.Table.{eventLimit}
+use Rattle.event.specs.declared.Event.{Event}
+use Rattle.decoder.specs.declared.Item.{Item}
+use Rattle.decoder.specs.declared.Item.the-variants.{Decoded}
+use Rattle.trace.specs.declared.Header.{Header}
+use Rattle.trace.specs.declared.Shape.{Shape}
+use Rattle.trace.specs.declared.Shape.the-variants.{Formed, Refused}
+use Rattle.trace.specs.File.{shapeOf, firstItems, itemIn, Contents, refused, recorded, contentsOf, fileOf}
+use Rattle.trace.specs.Beginning.{heldItemIn}
+use Rattle.trace.proofs.Faults.{length-first}
+use Rattle.trace.proofs.Held.{shape-decided}
+use Rattle.rules.specs.Orders.{Action, PermittedOrder}
+use Rattle.rules.specs.Answers.{answerOf, lengthsIn, answerOfContents, answerOfFile}
+use Rattle.rules.specs.Theorems.{answerTo, codeOf, IsAccepted}
+use Rattle.rules.proofs.Files.{Refusals, of-shape}
+use Rattle.judge.specs.Beginnings.{heldContents, answerOfBeginning}
+use Rattle.judge.proofs.Beginnings.{beginning-items, beginning-judged, told-formed}
+use Rattle.moves.specs.Acting.{memories}
+use Rattle.run.specs.Running.{Lent, lent, isAccepted, loadBytes, orNoRoom, areLent, answerOfRun, leaves, Ran, heldOf}
+use Rattle.run.specs.Acting.{actedAll, left}
+use Rattle.run.proofs.Acted.{every-order}
+
+-- ---- refusals
+-- an answer of another variant than the second is none
+pub no-acceptance : (a : Answer) → OneOf (0 ∷ 2 ∷ 3 ∷ 4 ∷ 5 ∷ 6 ∷ 7 ∷ 8 ∷ 9 ∷ 10 ∷ 11 ∷ 12 ∷ []) (tagOf the-type a) → ¬ IsAccepted a
+no-acceptance answer.NoVerdict tag h = omega (arith, h)
+no-acceptance (answer.Accepted events peak) tag h = miss (0 ∷ 2 ∷ 3 ∷ 4 ∷ 5 ∷ 6 ∷ 7 ∷ 8 ∷ 9 ∷ 10 ∷ 11 ∷ 12 ∷ []) 1 tt tag
+no-acceptance answer.WrongShape tag h = omega (arith, h)
+no-acceptance answer.TooManyEvents tag h = omega (arith, h)
+no-acceptance answer.WrongMemoryLength tag h = omega (arith, h)
+no-acceptance (answer.UnknownKind event) tag h = omega (arith, h)
+no-acceptance (answer.WrongBodyLength event) tag h = omega (arith, h)
+no-acceptance (answer.FieldNotAllowed event) tag h = omega (arith, h)
+no-acceptance (answer.Misaligned event) tag h = omega (arith, h)
+no-acceptance (answer.OutOfRange event) tag h = omega (arith, h)
+no-acceptance (answer.Clash event partner) tag h = omega (arith, h)
+no-acceptance (answer.NoRoom event) tag h = omega (arith, h)
+no-acceptance answer.NotWritten tag h = omega (arith, h)
+
+-- a refusal of the shape is none either
+pub shape-refuses : (f : List ℕ) (total : ℕ) (a : Answer) → shapeOf eventLimit f total ≡ Refused a → ¬ IsAccepted a
+shape-refuses f total a e =
+    rw e at (of-shape (λ a. ¬ IsAccepted a) (λ h. omega (arith, h)) (λ h. omega (arith, h)) (λ h. omega (arith, h)) f total)
+
+-- a run with a refusal for an answer leaves all as it was
+pub ran-refused : (contents : Contents) (before : Lent) (a : Answer) → a ≡ answerOfRun contents before → ¬ IsAccepted a
+    → Ran contents before a before
+ran-refused contents before a e refuses = record {
+  answers = e;
+  refusal = λ h. refl;
+  acceptance = λ accepts header es is order permitted. absurd (refuses accepts);
+}
+
+-- ---- by what the file says
+pub run-refused : (a : Answer) (before : Lent) → a ≡ answerOfRun (refused a) before
+unfolding answerOfRun
+run-refused a before = refl
+
+module _ (header : Header) (items : List Item) (before : Lent) where
+  abbrev judgement : Answer
+  judgement = answerOf (lengthsIn header) items
+
+  pub run-not-lent : areLent header before ≡ false → answer.WrongMemoryLength ≡ answerOfRun (recorded header items) before
+  unfolding answerOfRun
+  run-not-lent h = rw h
+
+  run-lent : areLent header before ≡ true
+      → answerOfRun (recorded header items) before ≡ orNoRoom (length (before .loadRecord)) items judgement
+  unfolding answerOfRun
+  run-lent h = rw h
+
+  module _ (h : areLent header before ≡ true) where
+    pub run-judged : ¬ IsAccepted judgement → judgement ≡ answerOfRun (recorded header items) before
+    run-judged refuses = sym (run-lent h ∙ rw (ne-eqb (codeOf judgement) 1 refuses))
+
+    pub run-no-room : IsAccepted judgement → length (before .loadRecord) < loadBytes items
+        → answer.NoRoom (length items) ≡ answerOfRun (recorded header items) before
+    run-no-room accepts over =
+        sym (run-lent h ∙ rw (eq-eqb (codeOf judgement) 1 accepts, lt-leb (loadBytes items) (length (before .loadRecord)) over))
+
+    pub run-room : IsAccepted judgement → loadBytes items ≤ length (before .loadRecord)
+        → judgement ≡ answerOfRun (recorded header items) before
+    run-room accepts fits =
+        sym (run-lent h ∙ rw (eq-eqb (codeOf judgement) 1 accepts, le-leb (loadBytes items) (length (before .loadRecord)) fits))
+
+-- ---- an accepted list
+same-items : {h h′ : Header} {items items′ : List Item} → recorded h items ≡ recorded h′ items′ → items ≡ items′
+same-items e = cc
+
+pub ran-accepted : (header : Header) (items : List Item) (before : Lent) → areLent header before ≡ true
+    → IsAccepted (answerOf (lengthsIn header) items) → loadBytes items ≤ length (before .loadRecord)
+    → Ran (recorded header items) before (answerOf (lengthsIn header) items)
+    (left (actedAll items (memories (before .global) (before .shared) (before .loadRecord) 0)))
+ran-accepted header items before h accepts fits = record {
+  answers = run-room header items before h accepts fits;
+  refusal = λ refuses. absurd (refuses accepts);
+  acceptance = λ again header′ es is order permitted.
+      let are = same-items is in
+      ap (λ l. left (actedAll l (memories (before .global) (before .shared) (before .loadRecord) 0))) are
+      ∙ every-order (lengthsIn header) es before (rw are at accepts) (rw are at fits) order permitted;
+}
+
+-- ---- by the file's beginning
+module _ (f : List ℕ) (total : ℕ) where
+  pub held-long : total < length f → heldOf f total ≡ refused answer.WrongShape
+  unfolding heldOf
+  held-long h = rw (lt-leb (length f) total h)
+
+  pub held-within : length f ≤ total → heldOf f total ≡ heldContents f (shapeOf eventLimit f total)
+  unfolding heldOf
+  held-within h = rw (le-leb (length f) total h)
+
+  pub held-shape : length f ≤ total → (s : Shape) → shapeOf eventLimit f total ≡ s → heldOf f total ≡ heldContents f s
+  held-shape h s e = held-within h ∙ ap (heldContents f) e
+
+module _ (f : List ℕ) (total : ℕ) (before : Lent) where
+  pub long-refused : total < length f → Ran (heldOf f total) before answer.WrongShape before
+  long-refused h =
+      rw (held-long f total h)
+      (ran-refused (refused answer.WrongShape) before answer.WrongShape (run-refused answer.WrongShape before) (λ q. omega (arith, q)))
+
+  module _ (within : length f ≤ total) where
+    pub shape-refused : (a : Answer) → shapeOf eventLimit f total ≡ Refused a → Ran (heldOf f total) before a before
+    shape-refused a e =
+        rw (held-shape f total within (Refused a) e)
+        (ran-refused (refused a) before a (run-refused a before) (shape-refuses f total a e))
+
+    module _ (header : Header) (shape : shapeOf eventLimit f total ≡ Formed header) where
+      abbrev items : List Item
+      items = firstItems (heldItemIn f) (header .events)
+
+      contents : heldOf f total ≡ recorded header items
+      contents = held-shape f total within (Formed header) shape
+
+      pub not-lent : areLent header before ≡ false → Ran (heldOf f total) before answer.WrongMemoryLength before
+      not-lent h =
+          rw contents
+          (ran-refused (recorded header items) before answer.WrongMemoryLength (run-not-lent header items before h) (λ q. omega (arith, q)))
+
+      module _ (h : areLent header before ≡ true) (a : Answer) (e : a ≡ answerOfBeginning f total) where
+        judged : a ≡ answerOf (lengthsIn header) items
+        judged = e ∙ told-formed f total within header shape
+
+        pub lent-refused : ¬ IsAccepted a → Ran (heldOf f total) before a before
+        lent-refused refuses =
+            rw contents
+            (ran-refused (recorded header items) before a
+            (judged ∙ run-judged header items before h (rw (← judged) refuses)) refuses)
+
+        module _ (accepts : IsAccepted a) where
+          pub judged-accepts : IsAccepted (answerOf (lengthsIn header) items)
+          judged-accepts = rw (← judged) accepts
+
+          pub lent-no-room : length (before .loadRecord) < loadBytes items → Ran (heldOf f total) before (answer.NoRoom (header .events)) before
+          lent-no-room over =
+              let count = ap answer.NoRoom (sym (length-first (heldItemIn f) (header .events))) in
+              rw contents
+              (ran-refused (recorded header items) before (answer.NoRoom (header .events))
+              (count ∙ run-no-room header items before h judged-accepts over) (λ q. omega (arith, q)))
+
+          pub lent-run : loadBytes items ≤ length (before .loadRecord) → (after : Lent)
+              → after ≡ left (actedAll items (memories (before .global) (before .shared) (before .loadRecord) 0))
+              → Ran (heldOf f total) before a after
+          lent-run fits after is = rw (contents, judged, is) (ran-accepted header items before h judged-accepts fits)
+
+-- a header with the lengths of what is lent
+pub lent-lengths : (events : ℕ) (before : Lent)
+    → areLent (record { events = events; global = length (before .global); shared = length (before .shared) }) before ≡ true
+lent-lengths events before =
+    rw (eq-eqb (length (before .global)) (length (before .global)) refl, eq-eqb (length (before .shared)) (length (before .shared)) refl)
+
+pub lent-header : (header : Header) (before : Lent) → areLent header before ≡ true
+    → header ≡ record { events = header .events; global = length (before .global); shared = length (before .shared) }
+lent-header header before h =
+    let t = both (eqb (header .global) (length (before .global))) (eqb (header .shared) (length (before .shared))) h in
+    let g = eqb-true (header .global) (length (before .global)) (t .0) in
+    let s = eqb-true (header .shared) (length (before .shared)) (t .1) in
+    ap₂ (λ m n. record { events = header .events; global = m; shared = n }) g s
+
+module _ (f : List ℕ) (k : ℕ) (enough : 12 + 28 * eventLimit ≤ k) {before after : Lent} {a : Answer} where
+  -- where the beginning and the file hold different items, both are refused alike
+  carried-items : (header : Header) → shapeOf eventLimit f (length f) ≡ Formed header
+      → Ran (recorded header (firstItems (heldItemIn (take k f)) (header .events))) before a after
+      → Ran (recorded header (firstItems (itemIn f) (header .events))) before a after
+  carried-items header e ran = by-acceptance (isAccepted judged) refl
+    where
+      held : List Item
+      held = firstItems (heldItemIn (take k f)) (header .events)
+
+      whole : List Item
+      whole = firstItems (itemIn f) (header .events)
+
+      judged : Answer
+      judged = answerOf (lengthsIn header) held
+
+      by-lent : ¬ IsAccepted judged → (t : Bool) → areLent header before ≡ t
+          → answerOfRun (recorded header held) before ≡ answerOfRun (recorded header whole) before
+      by-lent refuses true h =
+          let same = beginning-judged f k header enough e in
+          sym (run-judged header held before h refuses) ∙ same ∙ run-judged header whole before h (rw (← same) refuses)
+      by-lent refuses false h = sym (run-not-lent header held before h) ∙ run-not-lent header whole before h
+
+      no-run : ¬ IsAccepted judged → (t : Bool) → areLent header before ≡ t → ¬ IsAccepted a
+      no-run refuses true h = rw (ran .answers ∙ sym (run-judged header held before h refuses)) refuses
+      no-run refuses false h = rw (ran .answers ∙ sym (run-not-lent header held before h)) (λ q. omega (arith, q))
+
+      by-acceptance : (t : Bool) → isAccepted judged ≡ t → Ran (recorded header whole) before a after
+      by-acceptance true accepts =
+          rw (← beginning-items f k header enough e (eqb-true (codeOf judged) 1 accepts)) ran
+      by-acceptance false test =
+          let refuses = eqb-false (codeOf judged) 1 test in
+          let none = no-run refuses (areLent header before) refl in
+          rw (ran .refusal none)
+          (ran-refused (recorded header whole) before a (ran .answers ∙ by-lent refuses (areLent header before) refl) none)
+
+  pub carried : Ran (heldOf (take k f) (length f)) before a after → Ran (fileOf eventLimit f) before a after
+  unfolding fileOf
+  carried ran = by-shape (shapeOf eventLimit f (length f)) refl (rw contents at ran)
+    where
+      contents : heldOf (take k f) (length f) ≡ heldContents (take k f) (shapeOf eventLimit f (length f))
+      contents =
+          held-within (take k f) (length f) (omega (arith, length-take k f))
+          ∙ ap (heldContents (take k f)) (shape-decided eventLimit k f enough)
+
+      by-shape : (s : Shape) → shapeOf eventLimit f (length f) ≡ s
+          → Ran (heldContents (take k f) s) before a after → Ran (contentsOf f s) before a after
+      by-shape (Refused refusal) e r = r
+      by-shape (Formed header) e r = carried-items header e r
+
+-- the whole file is a beginning of itself
+pub whole : (f : List ℕ) → f ≡ take (length f + (12 + 28 * eventLimit)) f
+whole f = sym (take-all (length f + (12 + 28 * eventLimit)) f (omega arith))
+
+-- what is promised of a beginning
+pub told : (f : List ℕ) (total : ℕ) {before after : Lent} {a : Answer} → Ran (heldOf f total) before a after
+    → ((file : List ℕ) (held : ℕ) → 12 + 28 * eventLimit ≤ held → f ≡ take held file → total ≡ length file
+    → Ran (fileOf eventLimit file) before a after)
+    × Ran (heldOf f total) before a after
+told f total {before} {after} {a} ran = (
+  λ file held enough begins whole. carried file held enough (subst (λ c. Ran c before a after) (ap₂ heldOf begins whole) ran),
+  ran,
+)
