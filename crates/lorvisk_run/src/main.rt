@@ -52,10 +52,18 @@ fn run_four(argument: usize)
     let Input::Whole { held, total } = read_file else {
         return no_verdict();
     };
-    let Input::Whole { held: globals, .. } = read_global else {
+    let Input::Whole {
+        held: global_held,
+        ..
+    } = read_global
+    else {
         return no_verdict();
     };
-    let Input::Whole { held: shareds, .. } = read_shared else {
+    let Input::Whole {
+        held: shared_held,
+        ..
+    } = read_shared
+    else {
         return no_verdict();
     };
     let Input::Whole { held: room, .. } = read_loads else {
@@ -65,8 +73,8 @@ fn run_four(argument: usize)
     run_lent(
         beginning,
         total,
-        &mut global[..globals],
-        &mut shared[..shareds],
+        &mut global[..global_held],
+        &mut shared[..shared_held],
         &mut loads[..room],
     );
 }

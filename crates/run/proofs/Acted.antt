@@ -16,11 +16,11 @@ use Rattle.effect.proofs.Memories.{write-append}
 use Rattle.rules.specs.Events.{effectOf}
 use Rattle.rules.specs.Faults.{Lengths}
 use Rattle.rules.specs.Orders.{Action, actionsOf, PermittedOrder}
-use Rattle.rules.specs.Outcomes.{loadOf, loadsOf, Outcome, outcome}
+use Rattle.rules.specs.Outcomes.{loadOf, loadsOf}
 use Rattle.rules.specs.Theorems.{answerTo, IsAccepted}
 use Rattle.rules.proofs.Orders.{has-order}
 use Rattle.rules.proofs.Eager as eager
-use Rattle.rules.proofs.Eager.{stepped, withRead, lasts, reads, step-apart, eagerOutcome, eager-outcome}
+use Rattle.rules.proofs.Eager.{stepped, withRead, lasts, reads, step-apart, eager-outcome}
 use Rattle.rules.proofs.Lists.{same-bytes}
 use Rattle.moves.specs.Acting.{Memories, memories, alone, readBy, acted}
 use Rattle.run.specs.Running.{Lent, lent, loadBytes, together, leaving, leaves}

@@ -3,22 +3,20 @@
 use Prim.Native.Nat.{ℕ, _+_, _*_, _≤_, _<_}
 use native.Mathlib.Omega.{arith}
 use mathlib.Core.Path.{_≡_, refl, sym, ap, ap₂, subst, _∙_}
-use mathlib.Core.Bool.{Bool, true, false, not, _&&_, cond, true≢false}
-use mathlib.Core.List.{List, [], _∷_, map}
+use mathlib.Core.Bool.{Bool, true, false}
+use mathlib.Core.List.{List, [], _∷_}
 use denote.Enum.Declared.{tagOf}
 use types.Run.{OneOf, miss}
-use lib.Dec.{eqb, leb, ltb}
+use lib.Dec.{eqb}
 use lib.ListN.{length, take, length-take}
 use lib.Seq.{take-all}
-use borrow.Author.Tests.{eqb-true, eqb-false, eq-eqb, ne-eqb, le-leb, lt-leb, leb-true}
+use borrow.Author.Tests.{eqb-true, eqb-false, eq-eqb, ne-eqb, le-leb, lt-leb}
 use Rattle.answer.proofs.Answer.{the-type}
 use Rattle.answer.proofs.Both.{both}
 use Rattle.answer.specs.declared.Answer.{Answer}
 use Rattle.answer.specs.declared.Answer.the-variants as answer
 use Rattle.answer.specs.Table.{eventLimit}
-use Rattle.event.specs.declared.Event.{Event}
 use Rattle.decoder.specs.declared.Item.{Item}
-use Rattle.decoder.specs.declared.Item.the-variants.{Decoded}
 use Rattle.trace.specs.declared.Header.{Header}
 use Rattle.trace.specs.declared.Shape.{Shape}
 use Rattle.trace.specs.declared.Shape.the-variants.{Formed, Refused}
@@ -26,14 +24,13 @@ use Rattle.trace.specs.File.{shapeOf, firstItems, itemIn, Contents, refused, re
 use Rattle.trace.specs.Beginning.{heldItemIn}
 use Rattle.trace.proofs.Faults.{length-first}
 use Rattle.trace.proofs.Held.{shape-decided}
-use Rattle.rules.specs.Orders.{Action, PermittedOrder}
-use Rattle.rules.specs.Answers.{answerOf, lengthsIn, answerOfContents, answerOfFile}
-use Rattle.rules.specs.Theorems.{answerTo, codeOf, IsAccepted}
-use Rattle.rules.proofs.Files.{Refusals, of-shape}
+use Rattle.rules.specs.Answers.{answerOf, lengthsIn}
+use Rattle.rules.specs.Theorems.{codeOf, IsAccepted}
+use Rattle.rules.proofs.Files.{of-shape}
 use Rattle.judge.specs.Beginnings.{heldContents, answerOfBeginning}
 use Rattle.judge.proofs.Beginnings.{beginning-items, beginning-judged, told-formed}
 use Rattle.moves.specs.Acting.{memories}
-use Rattle.run.specs.Running.{Lent, lent, isAccepted, loadBytes, orNoRoom, areLent, answerOfRun, leaves, Ran, heldOf}
+use Rattle.run.specs.Running.{Lent, isAccepted, loadBytes, orNoRoom, areLent, answerOfRun, Ran, heldOf}
 use Rattle.run.specs.Acting.{actedAll, left}
 use Rattle.run.proofs.Acted.{every-order}
 

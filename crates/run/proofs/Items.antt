@@ -1,34 +1,32 @@
 -- The items of a list, one by one: what they load, and what they leave.
 -- Assumes nothing.
-use Prim.Native.Nat.{ℕ, zero, suc, _+_, _-_, _≤_, _<_}
-use native.Mathlib.Nat.{add-assoc, zero-add}
+use Prim.Native.Nat.{ℕ, suc, _+_, _-_, _≤_, _<_}
+use native.Mathlib.Nat.{zero-add}
 use native.Mathlib.Numerals.{add-one}
 use native.Mathlib.Omega.{arith}
-use mathlib.Core.Path.{_≡_, refl, sym, ap, ap₂, subst, _∙_}
-use mathlib.Core.Bool.{true, false, true≢false}
-use mathlib.Core.List.{List, [], _∷_, _++_, map, append-assoc}
-use lib.ListN.{length, getD, take, drop, length-take, length-map, List·getD-map}
-use lib.Seq.{length-sets, getD-at}
-use Rattle.event.specs.declared.Address.{Address}
+use mathlib.Core.Path.{_≡_, refl, sym, ap, ap₂, _∙_}
+use mathlib.Core.Bool.{false, true≢false}
+use mathlib.Core.List.{List, [], _∷_, _++_, append-assoc}
+use lib.ListN.{length, getD, length-take, length-map, List·getD-map}
+use lib.Seq.{getD-at}
 use Rattle.event.specs.declared.Address.the-variants as address
 use Rattle.event.specs.declared.Event.{Event}
 use Rattle.event.specs.declared.Event.the-variants.{Load, Store, Copy, Commit, Wait, WaitAll, BulkCopy, BulkReduction, BulkCommit, BulkWait}
 use Rattle.decoder.specs.declared.Item.{Item}
 use Rattle.decoder.specs.declared.Item.the-variants.{Decoded, UnknownKind, WrongBodyLength, FieldNotAllowed}
 use Rattle.decoder.specs.Kinds.{isDecoded}
-use Rattle.effect.specs.Memory.{Space, Global, Shared, State, initial, write, put}
-use Rattle.effect.specs.Effect.{Effect, nothing, load, store, copy, bulkCopy, bulkReduction, does}
+use Rattle.effect.specs.Memory.{Global, Shared}
 use Rattle.trace.specs.declared.Entry.{Entry}
 use Rattle.trace.specs.File.{entryAt, bodyStart, firstItems}
 use Rattle.trace.specs.Beginning.{entryIn, heldItem, heldItemIn}
 use Rattle.trace.proofs.Entries.{more-lengths, whole-entry}
 use Rattle.trace.proofs.Faults.{length-first, further}
-use Rattle.rules.specs.Events.{effectOf, eventAt}
+use Rattle.rules.specs.Events.{eventAt}
 use Rattle.rules.specs.Faults.{Lengths, faultless}
 use Rattle.rules.specs.Answers.{answerOf}
 use Rattle.rules.specs.Theorems.{IsAccepted}
 use Rattle.rules.proofs.Accepted.{accepted-items, accepted-well-formed}
-use Rattle.moves.specs.Acting.{loadSize, Memories, memories, alone, readBy, acted}
+use Rattle.moves.specs.Acting.{loadSize, Memories, readBy, acted}
 use Rattle.run.specs.Running.{loadSizeOf, loadBytes}
 use Rattle.run.specs.Acting.{Faultless, actedItem, actedAll}
 

@@ -3,10 +3,10 @@
 use Prim.Native.Nat.{ℕ, _+_, _≤_}
 use native.Mathlib.Nat.{zero-add}
 use native.Mathlib.Omega.{arith}
-use mathlib.Core.Path.{_≡_, refl, sym, ap, ap₂, subst, _∙_}
+use mathlib.Core.Path.{_≡_, refl, sym, ap, ap₂, _∙_}
 use mathlib.Core.Logic.{_⊎_, inl, inr}
 use mathlib.Core.Bool.{Bool, true, false, not, _&&_, cond}
-use mathlib.Core.List.{List, [], _∷_, map}
+use mathlib.Core.List.{List, map}
 use lib.Dec.{leb}
 use lib.ListN.{length}
 use borrow.Author.Tests.{eqb-true, eqb-false, eq-eqb, le-leb, leb-true, leb-false}
@@ -15,7 +15,6 @@ use Rattle.answer.specs.declared.Answer.{Answer}
 use Rattle.answer.specs.declared.Answer.the-variants as answer
 use Rattle.answer.specs.Table.{eventLimit, fitNamed, fit}
 use Rattle.event.specs.declared.Event.{Event}
-use Rattle.event.specs.declared.Event.the-variants.{Wait, WaitAll, BulkWait}
 use Rattle.decoder.specs.declared.Item.{Item}
 use Rattle.decoder.specs.declared.Item.the-variants.{Decoded}
 use Rattle.trace.specs.declared.Header.{Header}
@@ -25,13 +24,13 @@ use Rattle.rules.specs.Orders.{actionsOf}
 use Rattle.rules.specs.Answers.{answerOf, lengthsIn, answerOfContents, answerOfFile}
 use Rattle.rules.specs.Waited.{Waited, MayAdd, Lowered}
 use Rattle.rules.specs.Waited as waited
-use Rattle.rules.specs.Theorems.{codeOf, IsAccepted, Records}
+use Rattle.rules.specs.Theorems.{codeOf, IsAccepted}
 use Rattle.rules.proofs.Orders.{has-order}
 use Rattle.rules.proofs.Right.{Fits}
 use Rattle.rules.proofs.Files.{few-recorded, file-fits, answer-recorded, accepted-file, still-accepted-file, still-the-same-file}
 use Rattle.moves.specs.Acting.{loadSize}
-use Rattle.run.specs.Running.{Lent, isAccepted, loadBytes, orNoRoom, areLent, answerOfRun, leaving, leaves, Ran}
-use Rattle.run.specs.Theorems.{RanFile, OneRun, GivenInRuns, AsJudged, MoreWaitingInRuns}
+use Rattle.run.specs.Running.{Lent, isAccepted, loadBytes, orNoRoom, areLent, answerOfRun, leaving}
+use Rattle.run.specs.Theorems.{OneRun, GivenInRuns, AsJudged, MoreWaitingInRuns}
 use Rattle.run.proofs.Answers.{run-not-lent, run-judged, run-no-room, run-room}
 
 -- ---- what an accepted run tells of its file

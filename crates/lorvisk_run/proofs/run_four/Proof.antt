@@ -1,42 +1,43 @@
 -- `run_four` lends on what is held.
 -- Assumes nothing.
+use mathlib.Core.Path.{refl}
 use Rattle.lorvisk_run.proofs.Reading.{within, all-held}
 use borrow.Author.Needs.{needs}
 use Rattle.lorvisk_run.proofs.run_four.Statement.{statement}
 use Rattle.lorvisk_run.proofs.run_four.Tie as tie
 
 slice-aggregate-read : tie.Need-slice-aggregate-read
-slice-aggregate-read c = search needs
+slice-aggregate-read c = refl
 
 read-requires : tie.Need-read-requires
-read-requires c κs = search needs
+read-requires c κs = tt
 
 add-read : tie.Need-add-read
 add-read c = search needs
 
 slice-aggregate-read-2 : tie.Need-slice-aggregate-read-2
-slice-aggregate-read-2 c = search needs
+slice-aggregate-read-2 c = refl
 
 read-requires-2 : tie.Need-read-requires-2
-read-requires-2 c κs = search needs
+read-requires-2 c κs = tt
 
 add-read-2 : tie.Need-add-read-2
 add-read-2 c = search needs
 
 slice-aggregate-read-3 : tie.Need-slice-aggregate-read-3
-slice-aggregate-read-3 c = search needs
+slice-aggregate-read-3 c = refl
 
 read-requires-3 : tie.Need-read-requires-3
-read-requires-3 c κs = search needs
+read-requires-3 c κs = tt
 
 add-read-3 : tie.Need-add-read-3
 add-read-3 c = search needs
 
 slice-aggregate-read-4 : tie.Need-slice-aggregate-read-4
-slice-aggregate-read-4 c = search needs
+slice-aggregate-read-4 c = refl
 
 read-requires-4 : tie.Need-read-requires-4
-read-requires-4 c κs = search needs
+read-requires-4 c κs = tt
 
 enum-known-read-file : tie.Need-enum-known-read-file
 enum-known-read-file c = search needs
@@ -45,10 +46,10 @@ enum-told : tie.Need-enum-told
 enum-told c = search needs
 
 no-verdict-requires : tie.Need-no-verdict-requires
-no-verdict-requires c κs = search needs
+no-verdict-requires c κs = tt
 
 returns : tie.Need-returns
-returns c = search needs
+returns c = tt
 
 enum-known-read-global : tie.Need-enum-known-read-global
 enum-known-read-global c = search needs
@@ -57,10 +58,10 @@ enum-told-2 : tie.Need-enum-told-2
 enum-told-2 c = search needs
 
 no-verdict-requires-2 : tie.Need-no-verdict-requires-2
-no-verdict-requires-2 c κs = search needs
+no-verdict-requires-2 c κs = tt
 
 returns-2 : tie.Need-returns-2
-returns-2 c = search needs
+returns-2 c = tt
 
 enum-known-read-shared : tie.Need-enum-known-read-shared
 enum-known-read-shared c = search needs
@@ -69,10 +70,10 @@ enum-told-3 : tie.Need-enum-told-3
 enum-told-3 c = search needs
 
 no-verdict-requires-3 : tie.Need-no-verdict-requires-3
-no-verdict-requires-3 c κs = search needs
+no-verdict-requires-3 c κs = tt
 
 returns-3 : tie.Need-returns-3
-returns-3 c = search needs
+returns-3 c = tt
 
 enum-known-read-loads : tie.Need-enum-known-read-loads
 enum-known-read-loads c = search needs
@@ -81,10 +82,10 @@ enum-told-4 : tie.Need-enum-told-4
 enum-told-4 c = search needs
 
 no-verdict-requires-4 : tie.Need-no-verdict-requires-4
-no-verdict-requires-4 c κs = search needs
+no-verdict-requires-4 c κs = tt
 
 returns-4 : tie.Need-returns-4
-returns-4 c = search needs
+returns-4 c = tt
 
 array-share-prefix-file : tie.Need-array-share-prefix-file
 array-share-prefix-file c = within _ (c .before .before .before .before .before .before .before .before .before .before .read-file .given .1) (c .before .before .before .before .before .before .before .before .before .before .before .before .before .before .before .before .before .before .before .before .before .before .read .ensures)
@@ -111,10 +112,10 @@ slice-aggregate-run-lent-3 : tie.Need-slice-aggregate-run-lent-3
 slice-aggregate-run-lent-3 c = all-held _ (c .before .before .before .before .before .read-loads .given .1) (c .before .before .before .before .before .before .before .before .before .before .before .before .before .before .before .before .before .read4 .ensures)
 
 run-lent-requires : tie.Need-run-lent-requires
-run-lent-requires c κs = search needs
+run-lent-requires c κs = tt
 
 returns-5 : tie.Need-returns-5
-returns-5 c = search needs
+returns-5 c = tt
 
 pub run-four-spec : {M : Type 1} → statement M
 run-four-spec =

@@ -1,9 +1,7 @@
 -- `run_lent` meets its contract: all is judged and the room is checked before any event acts.
 -- Assumes nothing.
-use Prim.Native.Nat.{ℕ}
-use mathlib.Core.Path.{_≡_, sym, ap, _∙_}
+use mathlib.Core.Path.{ap}
 use denote.Ref.{now}
-use lib.ListN.{length}
 use Rattle.answer.specs.Table.{eventLimit}
 use Rattle.trace.proofs.Shapes.{counted}
 use Rattle.rules.specs.Theorems.{codeOf}

@@ -9,8 +9,7 @@ use lib.ListN.{length}
 use Rattle.trace.specs.File.{entryAt, bodyLengths, bodyStart, firstItems}
 use Rattle.trace.specs.Beginning.{heldItemIn}
 use Rattle.moves.specs.Acting.{Memories, memories}
-use Rattle.run.specs.Running.{loadSizeOf, loadBytes}
-use Rattle.run.specs.Acting.{Faultless, actedItem, actedAll, left}
+use Rattle.run.specs.Acting.{actedItem, actedAll, left}
 use Rattle.run.proofs.Items.{next-acted, loads-within, each-faultless, fills, walked}
 use Rattle.run.proofs.events.act_all.Statement.{statement}
 use Rattle.run.proofs.events.act_all.Tie as tie
