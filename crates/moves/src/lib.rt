@@ -73,7 +73,7 @@ pub fn act(
     }
 }
 
-// What a load reads of a record's room.
+// The bytes that an event loads: the room that it takes in the record.
 pub fn load_size(event: Event) -> u32
     ensures { λ r. ⌜ r ≡ loadSize event ⌝ }
 {
