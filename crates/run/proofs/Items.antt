@@ -28,7 +28,7 @@ use Rattle.rules.specs.Theorems.{IsAccepted}
 use Rattle.rules.proofs.Accepted.{accepted-items, accepted-well-formed}
 use Rattle.moves.specs.Acting.{loadSize, Memories, readBy, acted}
 use Rattle.run.specs.Running.{loadSizeOf, loadBytes}
-use Rattle.run.specs.Acting.{Faultless, actedItem, actedAll}
+use Rattle.run.specs.Acting.{FaultlessItem, actedItem, actedAll}
 
 -- ---- an item that does not decode
 pub no-size : (item : Item) → isDecoded item ≡ false → 0 ≡ loadSizeOf item
@@ -78,7 +78,7 @@ module _ (item : ℕ → Item) where
       ap (λ l. getD l i (Decoded Commit)) split ∙ getD-at (firstItems item i) (item i) rest (Decoded Commit) i (length-first item i)
 
   -- each item of an accepted list is without fault
-  pub each-faultless : (lengths : Lengths) (i n : ℕ) → i < n → IsAccepted (answerOf lengths (firstItems item n)) → Faultless lengths (item i)
+  pub each-faultless : (lengths : Lengths) (i n : ℕ) → i < n → IsAccepted (answerOf lengths (firstItems item n)) → FaultlessItem lengths (item i)
   each-faultless lengths i n h accepted =
       let v = accepted-items lengths (firstItems item n) accepted in
       let well = accepted-well-formed lengths (v .events) (rw (v .are) at accepted) in

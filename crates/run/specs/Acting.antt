@@ -10,11 +10,11 @@ use Rattle.moves.specs.Acting.{Memories, acted}
 use Rattle.run.specs.Running.{Lent, lent}
 
 -- The item gets none of 7 to 9, if it decodes.
-abbrev pub Faultless : Lengths → Item → Type 0
-Faultless lengths (Decoded e) = faultless lengths e ≡ true
-Faultless lengths UnknownKind = Unit {0}
-Faultless lengths WrongBodyLength = Unit {0}
-Faultless lengths FieldNotAllowed = Unit {0}
+abbrev pub FaultlessItem : Lengths → Item → Type 0
+FaultlessItem lengths (Decoded e) = faultless lengths e ≡ true
+FaultlessItem lengths UnknownKind = Unit {0}
+FaultlessItem lengths WrongBodyLength = Unit {0}
+FaultlessItem lengths FieldNotAllowed = Unit {0}
 
 abbrev pub actedItem : Item → Memories → Memories
 actedItem (Decoded e) m = acted e m

@@ -36,13 +36,14 @@ lent global shared loadRecord = record { global = global; shared = shared; loadR
 abbrev pub isAccepted : Answer → Bool
 isAccepted answer = eqb (codeOf answer) 1
 
--- The loads' total bytes.
+-- The bytes that an item loads.
 abbrev pub loadSizeOf : Item → ℕ
 loadSizeOf (Decoded e) = loadSize e
 loadSizeOf UnknownKind = 0
 loadSizeOf WrongBodyLength = 0
 loadSizeOf FieldNotAllowed = 0
 
+-- The loads' total bytes.
 abbrev pub loadBytes : List Item → ℕ
 loadBytes [] = 0
 loadBytes (item ∷ items) = loadSizeOf item + loadBytes items

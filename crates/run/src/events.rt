@@ -10,7 +10,7 @@ ghost use Rattle.rules.specs.Answers.{answerOf};
 ghost use Rattle.rules.specs.Theorems.{IsAccepted};
 ghost use Rattle.moves.specs.Acting.{memories};
 ghost use Rattle.run.specs.Running.{lent, loadSizeOf, loadBytes};
-ghost use Rattle.run.specs.Acting.{Faultless, actedItem, actedAll, left};
+ghost use Rattle.run.specs.Acting.{FaultlessItem, actedItem, actedAll, left};
 
 // The loads' total bytes.
 pub(crate) fn load_bytes(beginning: &[u8], events: u32) -> usize
@@ -66,7 +66,7 @@ pub(crate) fn act_all(
 
 // An item that does not decode, which no accepted list has, does nothing.
 fn act(item: Item, global: &mut [u8], shared: &mut [u8], loads: &mut [u8], filled: usize) -> usize
-    requires { ⌜ Faultless (record { global = length (now global); shared = length (now shared) }) item ⌝ }
+    requires { ⌜ FaultlessItem (record { global = length (now global); shared = length (now shared) }) item ⌝ }
     requires { ⌜ filled + loadSizeOf item ≤ length (now loads) ⌝ }
     ensures { λ r. ⌜ memories (now (global .exit)) (now (shared .exit)) (now (loads .exit)) r ≡ actedItem item (memories (now (global .entry)) (now (shared .entry)) (now (loads .entry)) filled) ⌝ }
 {

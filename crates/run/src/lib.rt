@@ -9,7 +9,6 @@ ghost use Prim.Native.Nat.{ℕ, _+_, _*_, _≤_};
 ghost use lib.ListN.{length, take};
 ghost use Rattle.answer.specs.Table.{eventLimit};
 ghost use Rattle.trace.specs.declared.Shape.the-variants.{Formed};
-ghost use Rattle.trace.specs.declared.Header.{Header};
 ghost use Rattle.trace.specs.File.{shapeOf, fileOf};
 ghost use Rattle.run.specs.Running.{lent, heldOf, Ran};
 
