@@ -1,0 +1,248 @@
+//! Random lists of events over small memories, so that accesses often share bytes.
+
+use crate::random::Random;
+use second::trace::{
+    Cache, ElementType, Event, GlobalAddress, Mode, Operation, Place, SharedAddress, Trace,
+};
+
+/// The pairs of operation and type that a reduction may have.
+const PAIRS: [(Operation, ElementType); 9] = [
+    (Operation::And, ElementType::B32),
+    (Operation::Or, ElementType::B32),
+    (Operation::Xor, ElementType::B32),
+    (Operation::Add, ElementType::U32),
+    (Operation::Min, ElementType::U32),
+    (Operation::Max, ElementType::U32),
+    (Operation::Add, ElementType::S32),
+    (Operation::Min, ElementType::S32),
+    (Operation::Max, ElementType::S32),
+];
+
+/// The kinds of a list, those that come more often several times.
+const MIXTURES: [&[u8]; 5] = [
+    &[1, 2, 16, 16, 17, 18, 19, 32, 33, 34, 35],
+    &[1, 1, 2, 16, 16, 16, 17, 17, 18, 18, 19],
+    &[1, 2, 32, 32, 33, 33, 33, 34, 34, 35, 35],
+    &[16, 16, 32, 33, 33],
+    &[1, 1, 2, 16, 17, 18, 34, 35, 32, 19],
+];
+
+/// The memories of a list, the kinds that come, and what makes its events.
+struct Maker<'a> {
+    random: &'a mut Random,
+    global: u32,
+    shared: u32,
+    kinds: &'static [u8],
+    /// The pair that most reductions of the list have, so that many may share a place.
+    pair: (Operation, ElementType),
+    /// One event in so many has a fault; none where this is 0.
+    faults: u64,
+}
+
+/// A list of this many events over memories of a few bytes, with a fault in one event of so many.
+pub fn list(random: &mut Random, events: usize, faults: u64) -> Trace {
+    let lengths = [16, 32, 32, 48, 64, 64, 96, 128];
+    let (global, shared) = (random.pick(&lengths), random.pick(&lengths));
+    list_over(random, events, faults, global, shared)
+}
+
+pub fn list_over(
+    random: &mut Random,
+    events: usize,
+    faults: u64,
+    global: u32,
+    shared: u32,
+) -> Trace {
+    let kinds = random.pick(&MIXTURES);
+    let pair = random.pick(&PAIRS);
+    let mut maker = Maker {
+        random,
+        global,
+        shared,
+        kinds,
+        pair,
+        faults,
+    };
+    Trace {
+        global_length: global,
+        shared_length: shared,
+        events: (0..events).map(|_| maker.event()).collect(),
+    }
+}
+
+/// The list with waits put in and events left out until it is accepted.
+pub fn mended(random: &mut Random, mut trace: Trace) -> Trace {
+    loop {
+        let answer = second::judge(&trace.write());
+        let event = usize::from(answer.event);
+        match answer.code {
+            10 if random.one_in(2) && trace.events.len() < 1_000 => {
+                let bulk = !matches!(
+                    trace.events[usize::from(answer.partner)],
+                    Event::Copy { .. }
+                );
+                let closing = if bulk { BULK_CLOSING } else { CLOSING };
+                trace.events.splice(event..event, closing.iter().copied());
+            }
+            5..=10 => {
+                trace.events.remove(event);
+            }
+            _ => return trace,
+        }
+    }
+}
+
+const CLOSING: &[Event] = &[Event::WaitAll];
+const BULK_CLOSING: &[Event] = &[Event::BulkCommit, Event::BulkWait { n: 0 }];
+
+/// A list that is accepted and has about this many events.
+pub fn accepted(random: &mut Random, events: usize) -> Trace {
+    let list = list(random, events, 0);
+    mended(random, list)
+}
+
+/// A wait of any kind.
+pub fn any_wait(random: &mut Random) -> Event {
+    let n = random.below(4) as u32;
+    random.pick(&[Event::Wait { n }, Event::WaitAll, Event::BulkWait { n }])
+}
+
+impl Maker<'_> {
+    fn event(&mut self) -> Event {
+        match self.random.pick(self.kinds) {
+            1 => self.load(),
+            2 => self.store(),
+            16 => self.copy(),
+            17 => Event::Commit,
+            18 => Event::Wait { n: self.number() },
+            19 => Event::WaitAll,
+            32 => self.bulk_copy(),
+            33 => self.reduction(),
+            34 => Event::BulkCommit,
+            _ => Event::BulkWait { n: self.number() },
+        }
+    }
+
+    fn has_fault(&mut self) -> bool {
+        self.faults != 0 && self.random.one_in(self.faults)
+    }
+
+    /// An address for so many bytes in a memory; with a fault, near its end, near 2^32, or not aligned.
+    fn address(&mut self, length: u32, size: u32) -> u32 {
+        let alignment = size.clamp(1, 16);
+        let last = length.saturating_sub(size) / alignment;
+        let aligned = self.random.below(u64::from(last) + 1) as u32 * alignment;
+        if !self.has_fault() {
+            return aligned;
+        }
+        match self.random.below(4) {
+            0 => (last + 1) * alignment,
+            1 => 0u32.wrapping_sub(alignment),
+            2 => aligned + 1 + self.random.below(3) as u32,
+            _ => self.random.number() as u32,
+        }
+    }
+
+    fn global(&mut self, size: u32) -> GlobalAddress {
+        GlobalAddress(self.address(self.global, size))
+    }
+
+    fn shared(&mut self, size: u32) -> SharedAddress {
+        SharedAddress(self.address(self.shared, size))
+    }
+
+    fn place(&mut self) -> (Place, u8) {
+        let size = self.random.pick(&[1, 2, 4, 8, 16]);
+        let place = match self.random.one_in(2) {
+            true => Place::Global(self.global(size.into())),
+            false => Place::Shared(self.shared(size.into())),
+        };
+        let wrong = self.has_fault();
+        (place, if wrong { self.random.byte() } else { size })
+    }
+
+    fn load(&mut self) -> Event {
+        let (place, size) = self.place();
+        Event::Load { place, size }
+    }
+
+    fn store(&mut self) -> Event {
+        let (place, size) = self.place();
+        let mut value = [0; 16];
+        let past = usize::from(self.has_fault());
+        for byte in value.iter_mut().take(usize::from(size) + past) {
+            *byte = self.random.byte();
+        }
+        Event::Store { place, size, value }
+    }
+
+    fn copy(&mut self) -> Event {
+        let cp_size = self.random.pick(&[4, 8, 16]);
+        let mode = self
+            .random
+            .pick(&[Mode::Plain, Mode::Plain, Mode::Given, Mode::Ignored]);
+        let wrong = self.has_fault();
+        let src_size = match mode {
+            _ if wrong => self.random.below(20) as u32,
+            Mode::Given => self.random.below(u64::from(cp_size) + 1) as u32,
+            Mode::Plain | Mode::Ignored => 0,
+        };
+        let cached = self.random.one_in(4) && (cp_size == 16 || self.has_fault());
+        Event::Copy {
+            dst: self.shared(cp_size.into()),
+            src: self.global(cp_size.into()),
+            src_size,
+            cp_size,
+            mode,
+            cache: if cached { Cache::Cg } else { Cache::Ca },
+        }
+    }
+
+    /// A bulk size that both memories have room for, if they have any.
+    fn size(&mut self) -> u32 {
+        if self.has_fault() {
+            return self.random.pick(&[0, 8, 15, 24, 65_552, u32::MAX - 15]);
+        }
+        let most = self.global.min(self.shared).min(64) / 16;
+        16 * (1 + self.random.below(most.into()) as u32)
+    }
+
+    fn bulk_copy(&mut self) -> Event {
+        let size = self.size();
+        Event::BulkCopy {
+            dst: self.global(size),
+            src: self.shared(size),
+            size,
+        }
+    }
+
+    fn reduction(&mut self) -> Event {
+        let other = self.random.one_in(5);
+        let (operation, mut element) = if other {
+            self.random.pick(&PAIRS)
+        } else {
+            self.pair
+        };
+        if self.has_fault() {
+            element = self
+                .random
+                .pick(&[ElementType::B32, ElementType::U32, ElementType::S32]);
+        }
+        let size = self.size();
+        Event::Reduction {
+            dst: self.global(size),
+            src: self.shared(size),
+            size,
+            operation,
+            element,
+        }
+    }
+
+    fn number(&mut self) -> u32 {
+        match self.random.below(20) {
+            0 => u32::MAX - self.random.below(2) as u32,
+            1 => 1 + self.random.below(70_000) as u32,
+            _ => self.random.below(4) as u32,
+        }
+    }
+}
