@@ -1,0 +1,141 @@
+//! The desk where files are handed in: it asks the proved programs and says what they answer.
+
+use crate::arguments::Question;
+use crate::explain;
+use crate::input::{Input, Kept};
+use crate::names::same_file;
+use crate::put;
+use crate::trouble::{complain, Trouble};
+use crate::verdict::{self, Status, NO_VERDICT};
+use programs::{Numbers, Programs, SHEET_LENGTH};
+use std::io::Write;
+use std::path::Path;
+
+pub struct Desk {
+    pub programs: Programs,
+}
+
+/// An answer, and the sheet that it was read from.
+pub struct Judged {
+    pub answer: Numbers,
+    pub sheet: [u8; SHEET_LENGTH],
+}
+
+impl Desk {
+    /// The programs are started as the files in a folder beside this tool tell, and no other: whoever could name another
+    /// folder could name another judge.
+    pub fn beside_this_tool() -> Result<Desk, Trouble> {
+        let tool = std::env::current_exe().map_err(|error| {
+            Trouble::Unusable(format!("this tool cannot find its own place: {error}"))
+        })?;
+        Ok(Desk {
+            programs: Programs::in_folder(tool.with_file_name("programs")),
+        })
+    }
+
+    pub fn answer(&self, question: &Question) -> Status {
+        match question {
+            Question::Judge { files, sheet } => files
+                .iter()
+                .map(|file| answered(file, self.judge(file, sheet.as_deref())))
+                .max()
+                .unwrap_or(Status::Unusable),
+            Question::Run(run) => answered(&run.trace, self.run(run)),
+            Question::Explain { file } => self.explain(file),
+            Question::Sheet { file } => answered(file, self.sheet(file)),
+        }
+    }
+
+    /// A sheet's place is cleared before the file is as much as opened: no older one may be taken for its verdict.
+    fn judge(&self, file: &Input, sheet: Option<&Path>) -> Result<Numbers, Trouble> {
+        clear_sheet(sheet, &[file.path()])?;
+        let judged = self.judged(self.programs.judge(file.open()?)?)?;
+        put_sheet(sheet, &judged)?;
+        Ok(judged.answer)
+    }
+
+    fn sheet(&self, file: &Input) -> Result<Numbers, Trouble> {
+        let answer = self.programs.read_sheet(file.open()?)?;
+        match verdict::status(answer) {
+            Status::NoVerdict => Err(Trouble::Silent("it holds no whole sheet".to_string())),
+            _ => Ok(answer),
+        }
+    }
+
+    /// Judges a file and reads it once more for the words, so that the judge had it as it was handed in.
+    fn explain(&self, file: &Input) -> Status {
+        let kept = match Kept::of(file) {
+            Ok(kept) => kept,
+            Err(trouble) => return answered(file, Err(trouble)),
+        };
+        let answer = match self.judge(&kept.input(), None) {
+            Ok(answer) => answer,
+            Err(trouble) => return answered(file, Err(trouble)),
+        };
+        let status = answered(file, Ok(answer));
+        match explain::lines(kept.path(), answer) {
+            Ok(lines) => lines
+                .iter()
+                .map(|line| say(&format!("  {line}")))
+                .fold(status, Ord::max),
+            Err(trouble) => trouble.of(&file.shown()).tell().max(status),
+        }
+    }
+
+    /// The answer on a sheet, as the proved reader reads it.
+    pub fn judged(&self, sheet: [u8; SHEET_LENGTH]) -> Result<Judged, Trouble> {
+        let answer = self.programs.read_sheet_bytes(&sheet)?;
+        match verdict::status(answer) {
+            Status::NoVerdict if sheet == [0; SHEET_LENGTH] => Err(Trouble::Silent(
+                "the judge could not read it to its end".to_string(),
+            )),
+            Status::NoVerdict => Err(Trouble::Silent(
+                "what the judge wrote is no sheet".to_string(),
+            )),
+            _ => Ok(Judged { answer, sheet }),
+        }
+    }
+}
+
+/// Says the answer to a file in one line, or that there is none and, on standard error, why.
+fn answered(file: &Input, answer: Result<Numbers, Trouble>) -> Status {
+    let name = file.shown();
+    match answer {
+        Ok(answer) => {
+            say(&format!("{name}: {}", verdict::words(answer))).max(verdict::status(answer))
+        }
+        Err(trouble) => {
+            let status = trouble.of(&name).tell();
+            say(&format!("{name}: {NO_VERDICT}")).max(status)
+        }
+    }
+}
+
+/// A line on standard output, which has to arrive there.
+pub fn say(line: &str) -> Status {
+    let mut output = std::io::stdout();
+    match writeln!(output, "{line}").and_then(|()| output.flush()) {
+        Ok(()) => Status::Accepted,
+        Err(error) => {
+            complain(&format!("standard output cannot be written: {error}"));
+            Status::Unusable
+        }
+    }
+}
+
+pub fn clear_sheet(sheet: Option<&Path>, read: &[&Path]) -> Result<(), Trouble> {
+    match sheet {
+        None => Ok(()),
+        Some(sheet) if read.iter().any(|name| same_file(sheet, name)) => Err(Trouble::Unusable(
+            "the sheet would replace a file that is read: give --sheet another name".to_string(),
+        )),
+        Some(sheet) => put::clear(sheet),
+    }
+}
+
+pub fn put_sheet(sheet: Option<&Path>, judged: &Judged) -> Result<(), Trouble> {
+    match sheet {
+        None => Ok(()),
+        Some(sheet) => put::put(sheet, &judged.sheet),
+    }
+}
