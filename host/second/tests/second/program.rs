@@ -32,7 +32,8 @@ fn one_line_for_each_file() {
     let lines = format!("{right} 1 2 0 1\n{wrong} 2 0 0 0\n");
     assert_eq!(text(&output.stdout), lines);
     assert!(output.stderr.is_empty());
-    assert_eq!(output.status.code(), Some(0));
+    assert_eq!(output.status.code(), Some(1));
+    assert_eq!(second(&[&right]).status.code(), Some(0));
 }
 
 #[test]
@@ -54,7 +55,7 @@ fn why_adds_the_reason() {
 
 #[test]
 fn help_and_no_file() {
-    assert_eq!(second(&["--help"]).status.code(), Some(0));
+    assert_eq!(second(&["--help"]).status.code(), Some(2));
     assert!(text(&second(&["--help"]).stdout).starts_with("usage: second"));
     assert_eq!(second(&[]).status.code(), Some(2));
 }
