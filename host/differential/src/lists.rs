@@ -1,6 +1,7 @@
 //! Random lists of events over small memories, so that accesses often share bytes.
 
 use crate::random::Random;
+use second::access::bytes_read;
 use second::trace::{
     Cache, ElementType, Event, GlobalAddress, Mode, Operation, Place, SharedAddress, Trace,
 };
@@ -41,7 +42,7 @@ struct Maker<'a> {
 
 /// A list of this many events over memories of a few bytes, with a fault in one event of so many.
 pub fn list(random: &mut Random, events: usize, faults: u64) -> Trace {
-    let lengths = [16, 32, 32, 48, 64, 64, 96, 128];
+    let lengths = [16, 17, 31, 32, 32, 48, 63, 64, 64, 96, 128];
     let (global, shared) = (random.pick(&lengths), random.pick(&lengths));
     list_over(random, events, faults, global, shared)
 }
@@ -101,6 +102,73 @@ pub fn accepted(random: &mut Random, events: usize) -> Trace {
     mended(random, list)
 }
 
+/// A pipeline, which is accepted: each stage starts an operation into the next of its slots, commits it, waits until the
+/// stage `depth` before it is closed, and loads what that one brought.
+pub fn pipeline(random: &mut Random, stages: usize, depth: usize) -> Trace {
+    let slots = depth + 1 + random.index(2);
+    let slot = |stage: usize| 16 * (stage % slots) as u32;
+    let (bulk, n) = (random.one_in(2), depth as u32);
+    let mut events = Vec::new();
+    for stage in 0..stages {
+        events.extend(match bulk {
+            true => [
+                bulk_copy_to(slot(stage)),
+                Event::BulkCommit,
+                Event::BulkWait { n },
+            ],
+            false => [copy_to(slot(stage)), Event::Commit, Event::Wait { n }],
+        });
+        let landed = stage.checked_sub(depth).map(slot);
+        events.extend(landed.map(|address| load_from(address, bulk)));
+    }
+    events.truncate(1_024);
+    let slots = 16 * slots as u32;
+    Trace {
+        global_length: if bulk { slots } else { 16 },
+        shared_length: if bulk { 16 } else { slots },
+        events,
+    }
+}
+
+/// The list with one of the last of its waits a number higher, or one of the last of its commits left out.
+pub fn spoiled(random: &mut Random, mut trace: Trace) -> Trace {
+    let half = trace.events.len() / 2;
+    let at = half + random.index(trace.events.len() - half);
+    match trace.events.get_mut(at) {
+        Some(Event::Wait { n } | Event::BulkWait { n }) => *n += 1,
+        Some(Event::Commit | Event::BulkCommit) => drop(trace.events.remove(at)),
+        _ => {}
+    }
+    trace
+}
+
+fn copy_to(dst: u32) -> Event {
+    Event::Copy {
+        dst: SharedAddress(dst),
+        src: GlobalAddress(0),
+        src_size: 0,
+        cp_size: 16,
+        mode: Mode::Plain,
+        cache: Cache::Ca,
+    }
+}
+
+fn bulk_copy_to(dst: u32) -> Event {
+    Event::BulkCopy {
+        dst: GlobalAddress(dst),
+        src: SharedAddress(0),
+        size: 16,
+    }
+}
+
+fn load_from(address: u32, global: bool) -> Event {
+    let place = match global {
+        true => Place::Global(GlobalAddress(address)),
+        false => Place::Shared(SharedAddress(address)),
+    };
+    Event::Load { place, size: 16 }
+}
+
 /// A wait of any kind.
 pub fn any_wait(random: &mut Random) -> Event {
     let n = random.below(4) as u32;
@@ -128,8 +196,7 @@ impl Maker<'_> {
     }
 
     /// An address for so many bytes in a memory; with a fault, near its end, near 2^32, or not aligned.
-    fn address(&mut self, length: u32, size: u32) -> u32 {
-        let alignment = size.clamp(1, 16);
+    fn address(&mut self, length: u32, size: u32, alignment: u32) -> u32 {
         let last = length.saturating_sub(size) / alignment;
         let aligned = self.random.below(u64::from(last) + 1) as u32 * alignment;
         if !self.has_fault() {
@@ -144,11 +211,19 @@ impl Maker<'_> {
     }
 
     fn global(&mut self, size: u32) -> GlobalAddress {
-        GlobalAddress(self.address(self.global, size))
+        GlobalAddress(self.address(self.global, size, size.clamp(1, 16)))
     }
 
     fn shared(&mut self, size: u32) -> SharedAddress {
-        SharedAddress(self.address(self.shared, size))
+        SharedAddress(self.address(self.shared, size, size.clamp(1, 16)))
+    }
+
+    /// A source of which so many bytes are read; one of which none is may lie anywhere.
+    fn source(&mut self, read: u32, cp_size: u32) -> GlobalAddress {
+        match read == 0 && self.random.one_in(3) {
+            true => GlobalAddress(self.random.number() as u32 / cp_size * cp_size),
+            false => GlobalAddress(self.address(self.global, read, cp_size)),
+        }
     }
 
     fn place(&mut self) -> (Place, u8) {
@@ -190,7 +265,7 @@ impl Maker<'_> {
         let cached = self.random.one_in(4) && (cp_size == 16 || self.has_fault());
         Event::Copy {
             dst: self.shared(cp_size.into()),
-            src: self.global(cp_size.into()),
+            src: self.source(bytes_read(mode, src_size, cp_size), cp_size.into()),
             src_size,
             cp_size,
             mode,
@@ -203,7 +278,12 @@ impl Maker<'_> {
         if self.has_fault() {
             return self.random.pick(&[0, 8, 15, 24, 65_552, u32::MAX - 15]);
         }
-        let most = self.global.min(self.shared).min(64) / 16;
+        let all = self.global.min(self.shared) / 16;
+        let most = if self.random.one_in(10) {
+            all
+        } else {
+            all.min(4)
+        };
         16 * (1 + self.random.below(most.into()) as u32)
     }
 
@@ -244,5 +324,35 @@ impl Maker<'_> {
             1 => 1 + self.random.below(70_000) as u32,
             _ => self.random.below(4) as u32,
         }
+    }
+}
+
+#[cfg(test)]
+mod tests {
+    use super::*;
+
+    /// Else the pipelines would try one refusal again and again.
+    #[test]
+    fn a_pipeline_is_accepted_and_as_deep_as_it_says() {
+        let mut random = Random::new(1);
+        for depth in [0, 1, 5, 255, 300] {
+            let answer = second::judge(&pipeline(&mut random, depth + 30, depth).write());
+            assert_eq!(
+                (answer.code, answer.peak),
+                (1, depth as u16 + 1),
+                "depth {depth}"
+            );
+        }
+    }
+
+    #[test]
+    fn a_spoiled_pipeline_clashes_often_and_late() {
+        let mut random = Random::new(1);
+        let answers = (0..100).map(|_| {
+            let trace = pipeline(&mut random, 100, 16);
+            second::judge(&spoiled(&mut random, trace).write())
+        });
+        let late = answers.filter(|answer| answer.code == 10 && answer.event > 180);
+        assert!(late.count() > 30);
     }
 }

@@ -2,7 +2,7 @@
 
 use crate::comparison::{Comparison, Difference};
 use crate::damage::{damaged, each_byte_changed, each_length};
-use crate::lists::{accepted, list, list_over, mended};
+use crate::lists::{accepted, list, list_over, mended, pipeline, spoiled};
 use crate::random::Random;
 
 /// Each code that a file can get has to come this often, or the files do not show much.
@@ -13,6 +13,7 @@ pub fn compare(comparison: &mut Comparison<'_>) -> Result<(), Difference> {
         for sort in [
             short,
             middling,
+            pipelines,
             without_fault,
             with_damage,
             changed,
@@ -24,7 +25,7 @@ pub fn compare(comparison: &mut Comparison<'_>) -> Result<(), Difference> {
         }
         // Long files are made and judged a few at a time: all of them together need much memory.
         for _ in 0..40 {
-            for sort in [long, over_long] {
+            for sort in [long, long_pipelines, over_long] {
                 let files = sort(&mut comparison.random);
                 comparison.judge(&files)?;
             }
@@ -60,6 +61,32 @@ fn middling(random: &mut Random) -> Vec<Vec<u8>> {
         let faults = random.pick(&[0, 0, 300]);
         list(random, events, faults).write()
     })
+}
+
+/// Waits that close some groups and not others, half of them with one wait or commit wrong.
+fn pipelines(random: &mut Random) -> Vec<Vec<u8>> {
+    many(6_000, || {
+        let (stages, depth) = (1 + random.index(12), random.index(6));
+        any_pipeline(random, stages, depth)
+    })
+}
+
+fn long_pipelines(random: &mut Random) -> Vec<Vec<u8>> {
+    many(5, || {
+        let (stages, depth) = (
+            200 + random.index(150),
+            random.pick(&[1, 16, 200, 255, 256, 300]),
+        );
+        any_pipeline(random, stages, depth)
+    })
+}
+
+fn any_pipeline(random: &mut Random, stages: usize, depth: usize) -> Vec<u8> {
+    let trace = pipeline(random, stages, depth);
+    match random.one_in(2) {
+        true => trace.write(),
+        false => spoiled(random, trace).write(),
+    }
 }
 
 fn without_fault(random: &mut Random) -> Vec<Vec<u8>> {

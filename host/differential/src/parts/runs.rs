@@ -2,7 +2,7 @@
 
 use crate::comparison::{Comparison, Difference};
 use crate::damage::damaged;
-use crate::lists::{accepted, list, list_over, mended};
+use crate::lists::{accepted, list, list_over, mended, pipeline};
 use crate::random::Random;
 use crate::subject::Lent;
 use second::trace::{Event, Trace};
@@ -42,9 +42,10 @@ pub fn lent(random: &mut Random, trace: &Trace, room: usize) -> Lent {
 
 fn any_run(random: &mut Random) -> Lent {
     let events = random.index(30);
-    let trace = match random.one_in(4) {
-        true => list(random, events, 100),
-        false => accepted(random, events),
+    let trace = match random.below(6) {
+        0 => list(random, events, 100),
+        1 => pipeline(random, events, 3),
+        _ => accepted(random, events),
     };
     let needed = room(&trace);
     let room = match random.below(6) {

@@ -1,7 +1,7 @@
 //! More waiting never harms: an accepted list with waits added or lowered is accepted, with the same bytes.
 
 use crate::comparison::{hex, Comparison, Difference};
-use crate::lists::{accepted, any_wait};
+use crate::lists::{accepted, any_wait, pipeline};
 use crate::parts::runs::{lent, room};
 use crate::random::Random;
 use crate::subject::Lent;
@@ -12,8 +12,11 @@ pub fn compare(comparison: &mut Comparison<'_>) -> Result<(), Difference> {
         let random = &mut comparison.random;
         let (mut before, mut after) = (Vec::new(), Vec::new());
         for _ in 0..100 {
-            let events = 1 + random.index(25);
-            let trace = accepted(random, events);
+            let (events, depth) = (1 + random.index(25), random.index(5));
+            let trace = match random.one_in(3) {
+                true => pipeline(random, events, depth),
+                false => accepted(random, events),
+            };
             let lent = lent(random, &trace, room(&trace));
             after.push(Lent {
                 file: waited(random, &trace).write(),
