@@ -13,6 +13,10 @@ const TOGETHER: usize = 500;
 /// Runs in one start.
 const RUNS_TOGETHER: usize = 100;
 
+/// Files from this length on, and one in so many of the others, are judged on standard input too.
+const LONG: usize = 1_500;
+const ONE_IN: u64 = 50;
+
 /// What another way of judging gives a file; none where it gives nothing.
 pub type Expected<'a> = &'a dyn Fn(&[u8]) -> Option<Answer>;
 
@@ -101,19 +105,44 @@ impl<'a> Comparison<'a> {
         for together in files.chunks(TOGETHER) {
             let answers = self.subject.judge(together);
             for (at, file) in together.iter().enumerate() {
-                let given = answers
-                    .as_ref()
-                    .map(|answers| answers[at])
-                    .map_err(String::clone);
+                // A program that died over many files is asked for each alone, to find the one.
+                let given = match &answers {
+                    Ok(answers) => Ok(answers[at]),
+                    Err(_) => self
+                        .subject
+                        .judge(std::slice::from_ref(file))
+                        .map(|answers| answers[0]),
+                };
                 if let Some(wanted) = expected(file) {
                     if given != Ok(wanted) {
                         return Err(self.difference(file, expected));
                     }
+                    self.judge_on_input(file, wanted)?;
                     *self.counts.judged.entry(wanted.code).or_default() += 1;
                 }
             }
+            answers.map_err(died_over_many)?;
         }
         Ok(())
+    }
+
+    /// Long files, and some of the others, are judged on standard input too, as the tool does: the sheet is the answer's.
+    fn judge_on_input(&mut self, file: &[u8], wanted: Answer) -> Result<(), Difference> {
+        if file.len() < LONG && self.counts.judged() % ONE_IN != 0 {
+            return Ok(());
+        }
+        self.counts.sheets += 1;
+        let mut sheet = vec![0; programs::SHEET_LENGTH];
+        sheet::write(wanted, &mut sheet);
+        match self.subject.judge_to_sheet(file) {
+            Ok(given) if given == sheet => Ok(()),
+            other => Err(Difference {
+                shows: "the sheet of a file on standard input".to_string(),
+                files: vec![("file", file.to_vec())],
+                proved: other.map_or_else(|silence| silence, |sheet| hex(&sheet)),
+                expected: hex(&sheet),
+            }),
+        }
     }
 
     fn difference(&mut self, file: &[u8], expected: Expected<'_>) -> Difference {
@@ -142,8 +171,15 @@ impl<'a> Comparison<'a> {
             let ran = self.subject.run(together);
             for (at, lent) in together.iter().enumerate() {
                 let wanted = expected_run(lent);
-                match &ran {
-                    Ok(ran) if ran[at] == wanted => {
+                let given = match &ran {
+                    Ok(ran) => Ok(ran[at].clone()),
+                    Err(_) => self
+                        .subject
+                        .run(std::slice::from_ref(lent))
+                        .map(|mut ran| ran.remove(0)),
+                };
+                match given {
+                    Ok(given) if given == wanted => {
                         *self
                             .counts
                             .ran
@@ -154,6 +190,7 @@ impl<'a> Comparison<'a> {
                     _ => return Err(self.different_run(lent)),
                 }
             }
+            ran.map_err(died_over_many)?;
         }
         Ok(all)
     }
@@ -204,6 +241,16 @@ impl<'a> Comparison<'a> {
                 expected: wanted.to_string(),
             }),
         }
+    }
+}
+
+/// A program that has an answer for each file alone, and none for all of them together.
+fn died_over_many(silence: String) -> Difference {
+    Difference {
+        shows: "many files in one start".to_string(),
+        files: Vec::new(),
+        proved: silence,
+        expected: "an answer for each".to_string(),
     }
 }
 

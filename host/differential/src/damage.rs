@@ -30,6 +30,29 @@ pub fn each_byte_changed(file: &[u8]) -> Vec<Vec<u8>> {
     files
 }
 
+/// An event of this kind and body, its body cut to every length up to 40 and lengthened by zeros to lengths that have a byte
+/// in common with the right one.
+pub fn each_body_length(kind: u8, body: &[u8]) -> Vec<Vec<u8>> {
+    let right = body.len() as u16;
+    let longer = [
+        255,
+        256,
+        right + 256,
+        right + 512,
+        right + 65_280,
+        right << 8,
+        65_535,
+    ];
+    let written = |length: u16| {
+        let [low, high] = length.to_le_bytes();
+        let mut file = vec![1, 0, 0, 0, 64, 0, 0, 0, 64, 0, 0, 0, kind, 0, low, high];
+        let zeros = std::iter::repeat(&0);
+        file.extend(body.iter().chain(zeros).take(usize::from(length)));
+        file
+    };
+    (0..40).chain(longer).map(written).collect()
+}
+
 /// Every beginning of the file, and the file with bytes after its end.
 pub fn each_length(random: &mut Random, file: &[u8]) -> Vec<Vec<u8>> {
     let mut files: Vec<Vec<u8>> = (0..file.len()).map(|cut| file[..cut].to_vec()).collect();

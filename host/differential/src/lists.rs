@@ -55,6 +55,21 @@ pub fn list_over(
     shared: u32,
 ) -> Trace {
     let kinds = random.pick(&MIXTURES);
+    list_of(random, kinds, events, faults, (global, shared))
+}
+
+/// Loads alone, over memories of these lengths.
+pub fn loads(random: &mut Random, events: usize, global: u32, shared: u32) -> Trace {
+    list_of(random, &[1], events, 0, (global, shared))
+}
+
+fn list_of(
+    random: &mut Random,
+    kinds: &'static [u8],
+    events: usize,
+    faults: u64,
+    (global, shared): (u32, u32),
+) -> Trace {
     let pair = random.pick(&PAIRS);
     let mut maker = Maker {
         random,
@@ -139,6 +154,22 @@ pub fn spoiled(random: &mut Random, mut trace: Trace) -> Trace {
         Some(Event::Commit | Event::BulkCommit) => drop(trace.events.remove(at)),
         _ => {}
     }
+    trace
+}
+
+/// A pipeline and then a store to what all its operations read.
+pub fn source_stored(mut trace: Trace) -> Trace {
+    let place = match trace.events.first() {
+        Some(Event::BulkCopy { src, .. }) => Place::Shared(*src),
+        _ => Place::Global(GlobalAddress(0)),
+    };
+    let value = [0; 16];
+    trace.events.truncate(1_023);
+    trace.events.push(Event::Store {
+        place,
+        size: 1,
+        value,
+    });
     trace
 }
 
@@ -279,12 +310,11 @@ impl Maker<'_> {
             return self.random.pick(&[0, 8, 15, 24, 65_552, u32::MAX - 15]);
         }
         let all = self.global.min(self.shared) / 16;
-        let most = if self.random.one_in(10) {
-            all
-        } else {
-            all.min(4)
-        };
-        16 * (1 + self.random.below(most.into()) as u32)
+        match self.random.below(40) {
+            0 => 16 * all.max(1),
+            1..=3 => 16 * (1 + self.random.below(all.into()) as u32),
+            _ => 16 * (1 + self.random.below(all.min(4).into()) as u32),
+        }
     }
 
     fn bulk_copy(&mut self) -> Event {

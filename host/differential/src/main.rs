@@ -20,6 +20,9 @@ tools/build makes: it tells how each proved program is started.
   --only PART      one part alone: table, files, runs, orders, waiting, recording
                    or sheets";
 
+/// All parts together compare so many files at least.
+const LEAST: u64 = 100_000;
+
 struct Request {
     seed: u64,
     times: u64,
@@ -95,6 +98,9 @@ fn compare(request: &Request) -> Result<(), String> {
     println!("runs, by code: {}", told(&all.ran));
     let (judged, ran, sheets) = (all.judged(), all.ran(), all.sheets);
     let files = judged + ran;
+    if request.only.is_none() && files < LEAST {
+        return Err(format!("{files} files were compared, fewer than {LEAST}"));
+    }
     println!("no difference in {files} files ({judged} judged, {ran} run) and {sheets} sheets");
     Ok(())
 }

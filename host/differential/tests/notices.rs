@@ -324,3 +324,21 @@ fn a_judge_with_one_fixed_answer_fails_the_table() {
     );
     assert_eq!(difference.proved, "1 3 0 1");
 }
+
+#[test]
+fn a_judge_that_dies_over_one_file_of_many() {
+    let wrong = Wrong {
+        judge: |_, answer| match answer.peak {
+            0..=5 => Ok(answer),
+            _ => Err("silence: it died".to_string()),
+        },
+        ..RIGHT
+    };
+    let difference = found("files", wrong);
+    assert_eq!(
+        second::judge(smallest_file(&difference)).peak,
+        6,
+        "{difference}"
+    );
+    assert_eq!(difference.proved, "silence: it died");
+}

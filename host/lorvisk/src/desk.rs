@@ -126,11 +126,22 @@ pub fn say(line: &str) -> Status {
 pub fn clear_sheet(sheet: Option<&Path>, read: &[&Path]) -> Result<(), Trouble> {
     match sheet {
         None => Ok(()),
-        Some(sheet) if read.iter().any(|name| same_file(sheet, name)) => Err(Trouble::Unusable(
-            "the sheet would replace a file that is read: give --sheet another name".to_string(),
-        )),
+        // What begins as a sheet is no trace that could be accepted: it is cleared, whoever names it as one.
+        Some(sheet) if !is_sheet(sheet) && read.iter().any(|name| same_file(sheet, name)) => {
+            Err(Trouble::Unusable(
+                "the sheet would replace a file that is read: give --sheet another name"
+                    .to_string(),
+            ))
+        }
         Some(sheet) => put::clear(sheet),
     }
+}
+
+/// Whether a file has the length and the table of a sheet.
+fn is_sheet(name: &Path) -> bool {
+    let length = std::fs::metadata(name).map_or(0, |found| found.len());
+    length == SHEET_LENGTH as u64
+        && std::fs::read(name).map_or(false, |bytes| bytes.starts_with(&[4, 0, 8, 0]))
 }
 
 pub fn put_sheet(sheet: Option<&Path>, judged: &Judged) -> Result<(), Trouble> {

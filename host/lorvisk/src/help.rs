@@ -60,8 +60,8 @@ A FILE of '-' is standard input; after '--' every word is a file. For example:
 Exit status, of several files the worst:
   0  accepted, and nothing else
   1  refused
-  2  nothing was judged: this help, a wrong command line, or a file that cannot
-     be read or written
+  2  something was not judged: this help, a wrong command line, or a file that
+     cannot be read or written
   3  no verdict: a program died, was killed, or did not finish its answer";
 
 const JUDGE: &str = "\

@@ -341,7 +341,7 @@ fn the_copy_of_standard_input_goes_through_no_link_that_stands_there() {
     let tool = Installed::new();
     tool.put("a", refused_file());
     tool.put("victim", "mine");
-    let line = "ln -s \"$PWD/victim\" \"$TMPDIR/lorvisk-input-$$\"; exec \"$0\" \"$@\" <a";
+    let line = "ln -s \"$PWD/victim\" \"$TMPDIR/.lorvisk-$$-0\"; exec \"$0\" \"$@\" <a";
     let said = tool.asked_by_shell(line, &["explain", "-"]);
     said.does_not_accept();
     assert_eq!(tool.bytes("victim").unwrap(), b"mine");

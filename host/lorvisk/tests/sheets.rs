@@ -318,3 +318,13 @@ fn a_sheet_option_without_a_right_value_is_refused() {
     assert_eq!(tool.bytes("good").unwrap(), ACCEPTED_FILE);
     assert_eq!(tool.bytes("bad").unwrap(), refused_file());
 }
+
+/// Whoever hands in the trace may hand in a link to the old sheet.
+#[test]
+fn an_old_sheet_that_is_handed_in_as_the_trace_is_gone() {
+    let tool = with_old_sheet();
+    std::os::unix::fs::symlink("OUT", tool.path("link")).expect("a link");
+    tool.asked(&["judge", "--sheet", "OUT", "link"])
+        .ends(UNUSABLE);
+    assert_eq!(tool.bytes("OUT"), None);
+}

@@ -1,4 +1,4 @@
-//! A second judge and runner of trace files, written from document 01 alone.
+//! A second judge and runner of trace files, written from documents 01 and 000 to 004.
 //!
 //! Each file has one subject and keeps to the document's words, so that it can
 //! be read beside the document, sentence by sentence:

@@ -1,9 +1,10 @@
 //! Generated files, long and short, of all sorts.
 
 use crate::comparison::{Comparison, Difference};
-use crate::damage::{damaged, each_byte_changed, each_length};
-use crate::lists::{accepted, list, list_over, mended, pipeline, spoiled};
+use crate::damage::{damaged, each_body_length, each_byte_changed, each_length};
+use crate::lists::{accepted, list, list_over, mended, pipeline, source_stored, spoiled};
 use crate::random::Random;
+use second::trace::Event;
 
 /// Each code that a file can get has to come this often, or the files do not show much.
 const LEAST: u64 = 100;
@@ -19,6 +20,7 @@ pub fn compare(comparison: &mut Comparison<'_>) -> Result<(), Difference> {
             changed,
             cut,
             any_bytes,
+            body_lengths,
         ] {
             let files = sort(&mut comparison.random);
             comparison.judge(&files)?;
@@ -63,10 +65,10 @@ fn middling(random: &mut Random) -> Vec<Vec<u8>> {
     })
 }
 
-/// Waits that close some groups and not others, half of them with one wait or commit wrong.
+/// Waits that close some groups and not others, many with one wait or commit wrong, or a store to what is still read.
 fn pipelines(random: &mut Random) -> Vec<Vec<u8>> {
     many(6_000, || {
-        let (stages, depth) = (1 + random.index(12), random.index(6));
+        let (stages, depth) = (1 + random.index(24), random.index(20));
         any_pipeline(random, stages, depth)
     })
 }
@@ -83,9 +85,10 @@ fn long_pipelines(random: &mut Random) -> Vec<Vec<u8>> {
 
 fn any_pipeline(random: &mut Random, stages: usize, depth: usize) -> Vec<u8> {
     let trace = pipeline(random, stages, depth);
-    match random.one_in(2) {
-        true => trace.write(),
-        false => spoiled(random, trace).write(),
+    match random.below(3) {
+        0 => trace.write(),
+        1 => source_stored(trace).write(),
+        _ => spoiled(random, trace).write(),
     }
 }
 
@@ -127,6 +130,13 @@ fn cut(random: &mut Random) -> Vec<Vec<u8>> {
         .collect()
 }
 
+/// One event alone, with bodies of other lengths.
+fn body_lengths(random: &mut Random) -> Vec<Vec<u8>> {
+    let lists = (0..10).flat_map(|_| list(random, 10, 0).events);
+    let of_one = |event: Event| each_body_length(event.kind(), &event.body());
+    lists.flat_map(of_one).collect()
+}
+
 /// Bytes drawn by lot, some behind the header of a small file.
 fn any_bytes(random: &mut Random) -> Vec<Vec<u8>> {
     many(4_000, || {
@@ -147,10 +157,16 @@ fn long(random: &mut Random) -> Vec<Vec<u8>> {
         let lengths = [512, 4_096, 65_536];
         let (global, shared) = (random.pick(&lengths), random.pick(&lengths));
         let trace = list_over(random, events, 0, global, shared);
-        match random.one_in(4) {
+        let mut file = match random.one_in(4) {
             true => trace.write(),
             false => mended(random, trace).write(),
+        };
+        // A fault late in a list: a byte among the last changes.
+        if random.one_in(3) {
+            let at = file.len() - 1 - random.index(16);
+            file[at] = random.byte();
         }
+        file
     })
 }
 

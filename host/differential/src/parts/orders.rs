@@ -1,8 +1,9 @@
 //! Short lists against all their permitted orders, enumerated outright.
 
 use crate::comparison::{hex, Comparison, Difference};
-use crate::lists::{accepted, list};
+use crate::lists::{accepted, list, pipeline, spoiled};
 use crate::parts::runs::{lent, room};
+use crate::random::Random;
 use crate::subject::{Left, Lent, Ran};
 use second::orders::{judge_by_orders, outcomes};
 use second::trace::{
@@ -11,6 +12,9 @@ use second::trace::{
 
 /// Lists with more orders than this are left out.
 const MOST: usize = 20_000;
+
+/// So many lists have to be enumerated.
+const LEAST: u64 = 50_000;
 
 /// Events that share bytes in many ways: two memories of 16 bytes, and few places in them.
 const EVENTS: [Event; 14] = [
@@ -75,9 +79,30 @@ pub fn compare(comparison: &mut Comparison<'_>) -> Result<(), Difference> {
             })
             .collect();
         comparison.judge_as(&files, &by_orders)?;
+        let random = &mut comparison.random;
+        let pipelines: Vec<Vec<u8>> = (0..3_000).map(|_| short_pipeline(random)).collect();
+        comparison.judge_as(&pipelines, &by_orders)?;
         bytes(comparison)?;
     }
-    Ok(())
+    match comparison.counts.judged() {
+        LEAST.. => Ok(()),
+        few => Err(Difference {
+            shows: format!("fewer than {LEAST} lists were enumerated, so little is tried"),
+            files: Vec::new(),
+            proved: few.to_string(),
+            expected: format!("at least {LEAST}"),
+        }),
+    }
+}
+
+/// Waits that close some groups and not others: K5's shape.
+fn short_pipeline(random: &mut Random) -> Vec<u8> {
+    let (stages, depth) = (2 + random.index(3), 1 + random.index(2));
+    let trace = pipeline(random, stages, depth);
+    match random.one_in(2) {
+        true => trace.write(),
+        false => spoiled(random, trace).write(),
+    }
 }
 
 /// Every list of up to four of those events.

@@ -2,10 +2,10 @@
 
 use crate::comparison::{Comparison, Difference};
 use crate::damage::damaged;
-use crate::lists::{accepted, list, list_over, mended, pipeline};
+use crate::lists::{accepted, list, list_over, loads, mended, pipeline};
 use crate::random::Random;
 use crate::subject::Lent;
-use second::trace::{Event, Trace};
+use second::trace::{Event, GlobalAddress, SharedAddress, Trace};
 
 pub fn compare(comparison: &mut Comparison<'_>) -> Result<(), Difference> {
     for _ in 0..comparison.times {
@@ -66,13 +66,34 @@ fn any_run(random: &mut Random) -> Lent {
     lent
 }
 
-/// Hundreds of events over memories of any length.
+/// A bulk copy as long as a bulk copy can be.
+fn whole_memory() -> Trace {
+    let event = Event::BulkCopy {
+        dst: GlobalAddress(0),
+        src: SharedAddress(0),
+        size: 65_536,
+    };
+    Trace {
+        global_length: 65_536,
+        shared_length: 65_536,
+        events: vec![event],
+    }
+}
+
+/// Hundreds of events, or memories of 65,536 bytes.
 fn long_run(random: &mut Random) -> Lent {
     let events = 100 + random.index(900);
     let lengths = [256, 4_096, 65_536];
     let (global, shared) = (random.pick(&lengths), random.pick(&lengths));
-    let trace = list_over(random, events, 0, global, shared);
-    let trace = mended(random, trace);
-    let room = room(&trace);
+    let trace = match random.below(8) {
+        0 => pipeline(random, 330, 300),
+        1 => loads(random, events, global, shared),
+        2 => whole_memory(),
+        _ => {
+            let trace = list_over(random, events, 0, global, shared);
+            mended(random, trace)
+        }
+    };
+    let room = room(&trace).saturating_sub(random.index(2));
     lent(random, &trace, room)
 }
