@@ -118,23 +118,27 @@ pub fn accepted(random: &mut Random, events: usize) -> Trace {
 }
 
 /// A pipeline, which is accepted: each stage starts an operation into the next of its slots, commits it, waits until the
-/// stage `depth` before it is closed, and loads what that one brought.
+/// stage `depth` before it is closed, and loads what that one brought. The first stages may only fill the pipeline, so that
+/// the first wait closes several groups at once.
 pub fn pipeline(random: &mut Random, stages: usize, depth: usize) -> Trace {
-    let slots = depth + 1 + random.index(2);
+    let filling = depth + random.index(3);
+    let slots = filling + 1 + random.index(2);
     let slot = |stage: usize| 16 * (stage % slots) as u32;
     let (bulk, n) = (random.one_in(2), depth as u32);
     let mut events = Vec::new();
     for stage in 0..stages {
-        events.extend(match bulk {
-            true => [
+        let (operation, commit, wait) = match bulk {
+            true => (
                 bulk_copy_to(slot(stage)),
                 Event::BulkCommit,
                 Event::BulkWait { n },
-            ],
-            false => [copy_to(slot(stage)), Event::Commit, Event::Wait { n }],
-        });
-        let landed = stage.checked_sub(depth).map(slot);
-        events.extend(landed.map(|address| load_from(address, bulk)));
+            ),
+            false => (copy_to(slot(stage)), Event::Commit, Event::Wait { n }),
+        };
+        events.extend([operation, commit]);
+        if stage >= filling {
+            events.extend([wait, load_from(slot(stage - depth), bulk)]);
+        }
     }
     events.truncate(1_024);
     let slots = 16 * slots as u32;
@@ -367,11 +371,8 @@ mod tests {
         let mut random = Random::new(1);
         for depth in [0, 1, 5, 255, 300] {
             let answer = second::judge(&pipeline(&mut random, depth + 30, depth).write());
-            assert_eq!(
-                (answer.code, answer.peak),
-                (1, depth as u16 + 1),
-                "depth {depth}"
-            );
+            assert_eq!(answer.code, 1, "depth {depth}");
+            assert!(usize::from(answer.peak) > depth, "depth {depth}");
         }
     }
 
@@ -382,7 +383,7 @@ mod tests {
             let trace = pipeline(&mut random, 100, 16);
             second::judge(&spoiled(&mut random, trace).write())
         });
-        let late = answers.filter(|answer| answer.code == 10 && answer.event > 180);
+        let late = answers.filter(|answer| answer.code == 10 && answer.event > 150);
         assert!(late.count() > 30);
     }
 }
