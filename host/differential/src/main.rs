@@ -1,5 +1,6 @@
 //! `differential PROGRAMS`: compares the proved programs, started as the files in the folder PROGRAMS tell, with the second
-//! program. The same seed gives the same files. Ends with status 0 only if all parts ran and nothing differed.
+//! program. The same seed gives the same files. Ends with status 0 only if the parts that were
+//! asked for ran and nothing differed.
 
 use differential::comparison::{Comparison, Counts};
 use differential::parts::{Part, PARTS};

@@ -107,7 +107,7 @@ fn with_damage(random: &mut Random) -> Vec<Vec<u8>> {
     })
 }
 
-/// One event of each kind and what is around it, each byte changed.
+/// Accepted lists, each byte of them changed.
 fn changed(random: &mut Random) -> Vec<Vec<u8>> {
     let lists = many(20, || {
         let events = 4 + random.index(5);
