@@ -1,0 +1,3 @@
+-- What crosses the C boundary, and the statements of the theorems about it.
+pub mod Boundary
+pub mod Theorems
