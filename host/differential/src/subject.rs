@@ -1,6 +1,7 @@
 //! What is compared with the second program: the proved programs, started over pipes and files.
 
-use programs::{Numbers, Programs, Silence};
+use answer::Numbers;
+use programs::{Programs, Silence};
 use second::sheet;
 use second::Answer;
 use std::ffi::OsStr;

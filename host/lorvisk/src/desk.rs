@@ -6,8 +6,9 @@ use crate::input::{Input, Kept};
 use crate::names::same_file;
 use crate::put;
 use crate::trouble::{complain, Trouble};
-use crate::verdict::{self, Status, NO_VERDICT};
-use programs::{Numbers, Programs, SHEET_LENGTH};
+use crate::verdict::{status, Status};
+use answer::Answer;
+use programs::{Programs, SHEET_LENGTH};
 use std::io::Write;
 use std::path::Path;
 
@@ -17,7 +18,7 @@ pub struct Desk {
 
 /// An answer, and the sheet that it was read from.
 pub struct Judged {
-    pub answer: Numbers,
+    pub answer: Answer,
     pub sheet: [u8; SHEET_LENGTH],
 }
 
@@ -47,18 +48,17 @@ impl Desk {
     }
 
     /// A sheet's place is cleared before the file is as much as opened: no older one may be taken for its verdict.
-    fn judge(&self, file: &Input, sheet: Option<&Path>) -> Result<Numbers, Trouble> {
+    fn judge(&self, file: &Input, sheet: Option<&Path>) -> Result<Answer, Trouble> {
         clear_sheet(sheet, &[file.path()])?;
         let judged = self.judged(self.programs.judge(file.open()?)?)?;
         put_sheet(sheet, &judged)?;
         Ok(judged.answer)
     }
 
-    fn sheet(&self, file: &Input) -> Result<Numbers, Trouble> {
-        let answer = self.programs.read_sheet(file.open()?)?;
-        match verdict::status(answer) {
-            Status::NoVerdict => Err(Trouble::Silent("it holds no whole sheet".to_string())),
-            _ => Ok(answer),
+    fn sheet(&self, file: &Input) -> Result<Answer, Trouble> {
+        match Answer::with_numbers(self.programs.read_sheet(file.open()?)?) {
+            Answer::NoVerdict => Err(Trouble::Silent("it holds no whole sheet".to_string())),
+            answer => Ok(answer),
         }
     }
 
@@ -73,7 +73,7 @@ impl Desk {
             Err(trouble) => return answered(file, Err(trouble)),
         };
         let status = answered(file, Ok(answer));
-        match explain::lines(kept.path(), answer) {
+        match explain::lines(kept.path(), answer.numbers()) {
             Ok(lines) => lines
                 .iter()
                 .map(|line| say(&format!("  {line}")))
@@ -84,29 +84,26 @@ impl Desk {
 
     /// The answer on a sheet, as the proved reader reads it.
     pub fn judged(&self, sheet: [u8; SHEET_LENGTH]) -> Result<Judged, Trouble> {
-        let answer = self.programs.read_sheet_bytes(&sheet)?;
-        match verdict::status(answer) {
-            Status::NoVerdict if sheet == [0; SHEET_LENGTH] => Err(Trouble::Silent(
+        match Answer::with_numbers(self.programs.read_sheet_bytes(&sheet)?) {
+            Answer::NoVerdict if sheet == [0; SHEET_LENGTH] => Err(Trouble::Silent(
                 "the judge could not read it to its end".to_string(),
             )),
-            Status::NoVerdict => Err(Trouble::Silent(
+            Answer::NoVerdict => Err(Trouble::Silent(
                 "what the judge wrote is no sheet".to_string(),
             )),
-            _ => Ok(Judged { answer, sheet }),
+            answer => Ok(Judged { answer, sheet }),
         }
     }
 }
 
 /// Says the answer to a file in one line, or that there is none and, on standard error, why.
-fn answered(file: &Input, answer: Result<Numbers, Trouble>) -> Status {
+fn answered(file: &Input, answer: Result<Answer, Trouble>) -> Status {
     let name = file.shown();
     match answer {
-        Ok(answer) => {
-            say(&format!("{name}: {}", verdict::words(answer))).max(verdict::status(answer))
-        }
+        Ok(answer) => say(&format!("{name}: {answer}")).max(status(answer)),
         Err(trouble) => {
             let status = trouble.of(&name).tell();
-            say(&format!("{name}: {NO_VERDICT}")).max(status)
+            say(&format!("{name}: {}", Answer::NoVerdict)).max(status)
         }
     }
 }

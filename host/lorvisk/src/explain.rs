@@ -4,7 +4,7 @@
 use crate::input::{cannot_be_read, open};
 use crate::remedy;
 use crate::trouble::Trouble;
-use programs::Numbers;
+use answer::Numbers;
 use second::access::{accesses, check, Access, Range};
 use second::trace::{shape, Event, Shape};
 use std::io::Read;

@@ -6,8 +6,8 @@ use crate::input::{cannot_be_read, open, Kept};
 use crate::names::{is_in, same_file, shown};
 use crate::put;
 use crate::trouble::Trouble;
-use crate::verdict::{self, Status};
-use programs::{Numbers, SHEET_LENGTH};
+use answer::Answer;
+use programs::SHEET_LENGTH;
 use std::path::Path;
 use std::process::Stdio;
 
@@ -21,7 +21,7 @@ const RESULTS: [&str; 3] = ["loads", "global", "shared"];
 type Results<'a> = Vec<(&'static str, &'a [u8])>;
 
 impl Desk {
-    pub fn run(&self, run: &Run) -> Result<Numbers, Trouble> {
+    pub fn run(&self, run: &Run) -> Result<Answer, Trouble> {
         clear(run)?;
         let lengths = lengths(run)?;
         let most = lengths
@@ -54,7 +54,7 @@ impl Desk {
         let (sheet, mut rest) = first(written, SHEET_LENGTH).ok_or_else(unfinished)?;
         let judged = self.judged(sheet.try_into().map_err(|_| unfinished())?)?;
         let mut results = Vec::new();
-        if verdict::status(judged.answer) == Status::Accepted {
+        if judged.answer.is_accepted() {
             for (name, length) in RESULTS.into_iter().zip(lengths) {
                 let (result, after) = first(rest, length).ok_or_else(unfinished)?;
                 results.push((name, result));

@@ -4,9 +4,9 @@
 mod numbers;
 mod program;
 
-pub use numbers::Numbers;
 pub use program::Silence;
 
+use answer::Numbers;
 use numbers::{line_of_numbers, named_line};
 use program::Program;
 use std::ffi::OsStr;

@@ -1,27 +1,6 @@
-//! The four numbers of an answer, as the proved programs write them in a line.
+//! The four numbers of an answer, in the line that a proved program writes.
 
-use std::fmt;
-
-/// Code, event, partner and peak of an answer; code 0 is no verdict.
-#[derive(Clone, Copy, Debug, PartialEq, Eq)]
-pub struct Numbers {
-    pub code: u16,
-    pub event: u16,
-    pub partner: u16,
-    pub peak: u16,
-}
-
-impl fmt::Display for Numbers {
-    fn fmt(&self, to: &mut fmt::Formatter<'_>) -> fmt::Result {
-        let Numbers {
-            code,
-            event,
-            partner,
-            peak,
-        } = self;
-        write!(to, "{code} {event} {partner} {peak}")
-    }
-}
+use answer::Numbers;
 
 /// The numbers of a whole line, its newline included; of anything else, none.
 pub(crate) fn line_of_numbers(line: &[u8]) -> Option<Numbers> {
