@@ -14,14 +14,14 @@ use Rattle.lorvisk.specs.Boundary.{RanAs}
 -- A word that judging gives is the file's answer, and never 0.
 unfoldable pub JudgedWord : Type 0
 JudgedWord =
-    (f : List ℕ) → (unpacked (packed (answerOfFile f)) ≡ answerOfFile f) × (packed (answerOfFile f) ≡ 0 → ⊥)
+    (f : List ℕ) → (unpacked (packed (answerOfFile f)) ≡ answerOfFile f) × ¬ (packed (answerOfFile f) ≡ 0)
 
 -- So is one that a run gives, and one word and one outcome meet the promise of a run.
 unfoldable pub RanWord : Type 0
 RanWord =
     (f : List ℕ) (before : Lent) (word : ℕ) (after : Lent) → RanAs f before word after
     → RanFile f before (unpacked word) after
-    × (word ≡ 0 → ⊥)
+    × ¬ (word ≡ 0)
     × ((word′ : ℕ) (after′ : Lent) → RanAs f before word′ after′ → (word ≡ word′) × (after ≡ after′))
 
 -- A written sheet reads back as the same word.

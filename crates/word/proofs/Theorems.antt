@@ -1,6 +1,6 @@
 -- The proofs of the statements in specs/Theorems.antt.
 -- Assumes nothing.
-use Prim.Native.Nat.{ℕ, _+_, _*_, _/_, _%_, _^_, _≤_, _<_}
+use Prim.Native.Nat.{ℕ, _+_, _*_, _/_, _%_, _^_, _<_}
 use mathlib.Core.Path.{_≡_, refl, sym, ap, _∙_}
 use mathlib.Core.List.{List, [], _∷_}
 use native.Mathlib.Omega.{arith}
@@ -9,17 +9,17 @@ use lib.Dec.{lit<}
 use lib.Pow.{pow-pos}
 use Rattle.little_endian.specs.Number.{numberAt, bytesOf}
 use Rattle.little_endian.proofs.Widths.{halves, bounded, there}
-use Rattle.answer.specs.Numbers.{four, numbersOf}
+use Rattle.answer.specs.Numbers.{numbersOf}
 use Rattle.answer.specs.Table.{fit, fitNamed}
-use Rattle.answer.specs.Sheet.{twoEach, inOrder, twoAt, sheetOf, readOf, isSheet}
+use Rattle.answer.specs.Sheet.{twoEach, inOrder, twoAt, sheetOf, readOf}
 use Rattle.answer.specs.Theorems.{OneSheet}
 use Rattle.answer.proofs.Given.{reads, given-fits}
 use Rattle.answer.proofs.Reading.{standing}
 use Rattle.answer.proofs.Theorems.{oneSheet}
 use Rattle.answer.proofs.TwoBytes.{each-bytes}
-use Rattle.word.specs.Word.{packed, unpacked}
+use Rattle.word.specs.Word.{packed, sheetWith, unpacked}
 use Rattle.word.specs.Theorems.{Unpacks, OneWord, ZeroIsNoVerdict, NumbersInWord, CutWord}
-use Rattle.word.proofs.Words.{sheetWith, word-of, sheet-bytes, sheet-again, no-code}
+use Rattle.word.proofs.Words.{word-of, sheet-bytes, sheet-again, no-code}
 
 pub unpacks : Unpacks
 unfolding Unpacks unpacked

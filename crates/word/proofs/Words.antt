@@ -6,7 +6,7 @@ use mathlib.Core.Bool.{Bool, true, false}
 use mathlib.Core.List.{List, [], _∷_, _++_}
 use native.Mathlib.Omega.{arith}
 use lib.Dec.{lit<}
-use lib.ListN.{getD, replicate}
+use lib.ListN.{replicate}
 use lib.Seq.{sets}
 use Rattle.little_endian.specs.Number.{Bytes, numberAt, bytesOf}
 use Rattle.little_endian.proofs.Widths.{back}
@@ -19,11 +19,7 @@ use Rattle.answer.specs.Theorems.{cut}
 use Rattle.answer.proofs.Cut.{cut-before-code}
 use Rattle.answer.proofs.Reading.{read-no-sheet}
 use Rattle.answer.proofs.TwoBytes.{each-bytes}
-use Rattle.word.specs.Word.{packed, unpacked}
-
--- The sheet with this body.
-abbrev pub sheetWith : ℕ → List ℕ
-sheetWith word = twoEach (4 ∷ 8 ∷ []) ++ bytesOf 8 word
+use Rattle.word.specs.Word.{packed, sheetWith, unpacked}
 
 pub word-of : (a : Answer) → fit (numbersOf a) ≡ true → packed a ≡ numberAt 8 (sheetOf a) 4
 unfolding packed

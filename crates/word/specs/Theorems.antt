@@ -1,5 +1,5 @@
 -- What holds of words. Each statement is a type; proofs/Theorems.antt proves it, as `unpacks : Unpacks`.
-use Prim.Native.Nat.{ℕ, _*_, _/_, _%_, _^_, _≤_, _<_}
+use Prim.Native.Nat.{ℕ, _/_, _%_, _^_, _≤_, _<_}
 use mathlib.Core.Path.{_≡_}
 use Rattle.answer.specs.declared.Answer.{Answer}
 use Rattle.answer.specs.declared.Answer.the-variants.{NoVerdict}
@@ -13,11 +13,11 @@ Unpacks = (a : Answer) → Given a → (packed a < 2 ^ 64) × (unpacked (packed 
 
 -- A number of 64 bits that gives a verdict is that verdict's word.
 unfoldable pub OneWord : Type 0
-OneWord = (word : ℕ) (a : Answer) → word < 2 ^ 64 → unpacked word ≡ a → (a ≡ NoVerdict → ⊥) → packed a ≡ word
+OneWord = (word : ℕ) (a : Answer) → word < 2 ^ 64 → unpacked word ≡ a → ¬ (a ≡ NoVerdict) → packed a ≡ word
 
 -- 0 is no verdict, and no verdict's word.
 unfoldable pub ZeroIsNoVerdict : Type 0
-ZeroIsNoVerdict = (unpacked 0 ≡ NoVerdict) × (packed NoVerdict ≡ 0) × ((a : Answer) → Given a → packed a ≡ 0 → ⊥)
+ZeroIsNoVerdict = (unpacked 0 ≡ NoVerdict) × (packed NoVerdict ≡ 0) × ((a : Answer) → Given a → ¬ (packed a ≡ 0))
 
 -- The word of a verdict has its event in the lowest sixteen bits, then its partner, its peak and its code.
 unfoldable pub NumbersInWord : Type 0
