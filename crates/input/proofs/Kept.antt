@@ -1,14 +1,15 @@
 -- What stands in the beginning when a piece more is kept.
 -- Assumes nothing.
-use Prim.Native.Nat.{ℕ, _+_, _-_, _≤_, _<_, min}
+use Prim.Native.Nat.{ℕ, suc, _+_, _-_, _≤_, _<_, min}
 use native.Mathlib.Omega.{arith}
 use native.Mathlib.Decide.{decLt}
+use native.Mathlib.Nat.{sub-zero, zero-sub, suc-sub-suc, zero-add, suc-add}
 use mathlib.Core.Path.{_≡_, sym, ap, ap₂, _∙_}
-use mathlib.Core.List.{List, [], _++_, append-nil}
-use lib.ListN.{length, take, drop, length-drop, drop-of-length-le}
-use lib.Seq.{take-all, take-length, length-take-le, drop-drop}
+use mathlib.Core.List.{List, [], _∷_, _++_, append-nil}
+use lib.ListN.{length, take, drop, length-append, length-take, length-drop, drop-of-length-le}
+use lib.Seq.{take-nil, drop-nil, take-all, take-length, length-take-le, drop-drop}
 use borrow.Rule.Slice.PartMut.{putMid}
-use Rattle.input.specs.Held.{keptIn}
+use Rattle.input.specs.Held.{beginningWith, Begins, keptIn}
 
 -- No list has more first elements than elements.
 take-least : (k : ℕ) (l : List ℕ) → take (min (length l) k) l ≡ take k l
@@ -47,3 +48,38 @@ none-kept piece lent at full =
     drop-of-length-le lent {i = at + min (length piece) (length lent - at)} (omega arith) in
     sym (ap₂ (λ l r. l ++ (take (length lent - at) piece ++ r)) (take-all at lent full) over
     ∙ ap (λ n. lent ++ (take n piece ++ [])) no-room ∙ append-nil lent)
+
+-- ---- Pieces, one after the other, are one input.
+
+drop-least : (piece lent : List ℕ) → drop (min (length piece) (length lent)) lent ≡ drop (length piece) lent
+drop-least piece lent = elim (decLt (length lent) (length piece)) [
+  | yes h ↦ (
+      let least : min (length piece) (length lent) ≡ length lent = omega arith in
+      ap (λ n. drop n lent) least ∙ drop-of-length-le lent {i = length lent} (omega arith)
+      ∙ sym (drop-of-length-le lent {i = length piece} (omega arith)))
+  | no h ↦ (let least : min (length piece) (length lent) ≡ length piece = omega arith in ap (λ n. drop n lent) least)
+]
+
+pub nothing-yet : (lent : List ℕ) → beginningWith [] lent ≡ lent
+unfolding beginningWith
+nothing-yet lent = rw (take-nil (length lent))
+
+-- A piece that is kept after the bytes of an input makes the beginning of both together.
+pub kept-after : (input piece lent : List ℕ)
+    → keptIn piece (length input) (beginningWith input lent) ≡ beginningWith (input ++ piece) lent
+unfolding keptIn beginningWith
+kept-after [] piece lent = rw (nothing-yet lent, sub-zero (length lent), zero-add, drop-least piece lent)
+kept-after (x ∷ input) piece [] = rw (zero-sub, drop-nil (suc (length input) + min (length piece) 0))
+kept-after (x ∷ input) piece (y ∷ lent) =
+    let held = beginningWith input lent in
+    let left : suc (length held) - suc (length input) ≡ length held - length input = suc-sub-suc (length held) (length input) in
+    rw (left, suc-add) (ap (_∷_ x) (kept-after input piece lent))
+
+-- One piece more.
+pub begins-more : (piece before lent after : List ℕ) (total count : ℕ) → length piece ≡ count → Begins total before lent
+    → after ≡ keptIn piece total lent → Begins (total + count) before after
+begins-more piece before lent after total count counted (input, long, is) kept = (
+  input ++ piece,
+  length-append input piece ∙ ap₂ _+_ long counted,
+  kept ∙ ap₂ (keptIn piece) (sym long) is ∙ kept-after input piece before,
+)

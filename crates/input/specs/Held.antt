@@ -6,10 +6,20 @@ use lib.ListN.{length, take, drop}
 use Rattle.input.specs.declared.Input.{Input}
 use Rattle.input.specs.declared.Input.the-variants.{Whole, Unread}
 
--- All of the input is held, or as much as was lent.
-abbrev pub Held : Input → List ℕ → Type 0
-Held (Whole held total) lent = held ≡ min total (length lent)
-Held Unread lent = Unit {0}
+-- What is lent, with the bytes of an input put in from the start on, as many as there is room for.
+unfoldable pub beginningWith : List ℕ → List ℕ → List ℕ
+beginningWith input lent = take (length lent) input ++ drop (length input) lent
+
+-- There is an input of `total` bytes, whose first bytes stand in what was lent; the bytes past it stay.
+abbrev pub Begins : ℕ → List ℕ → List ℕ → Type 0
+Begins total before after = (input : List ℕ) × (length input ≡ total) × (after ≡ beginningWith input before)
+
+-- It is held whole, or as much of it as was lent. Of an input that was not read to its end nothing is said.
+abbrev pub Held : Input → List ℕ → List ℕ → Type 0
+Held (Whole held total) before after = (held ≡ min total (length after)) × Begins total before after
+Held Unread before after = Unit {0}
+
+-- ---- For the inner function `keep`; no promise to a caller cites it.
 
 -- What is lent, with as much of a piece as has room put in from index `at` on.
 unfoldable pub keptIn : List ℕ → ℕ → List ℕ → List ℕ

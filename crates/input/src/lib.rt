@@ -13,7 +13,7 @@ pub enum Input {
 // Reads to the end of the input. A proved loop has to end, and nothing says that an input does: past so many pieces it is
 // unread.
 pub fn read(fd: i32, beginning: &mut [u8]) -> Input
-    ensures { λ r. ⌜ Held r (now (beginning .exit)) ⌝ }
+    ensures { λ r. ⌜ Held r (now (beginning .entry)) (now (beginning .exit)) ⌝ }
 {
     let mut total: usize = 0;
     let mut pieces: u32 = 0;

@@ -1,2 +1,2 @@
--- Laws of what is read.
-pub mod Reading
+-- Laws that the functions' proofs cite.
+pub mod Arguments

@@ -104,7 +104,7 @@ fn no_verdict() {
 
 // Reads the file that an argument names, of `most` bytes at most. One that is not read has its line on standard error.
 fn read(argument: usize, most: usize, bytes: &mut [u8]) -> Input
-    ensures { λ r. ⌜ Held r (now (bytes .exit)) ⌝ }
+    ensures { λ r. ⌜ Held r (now (bytes .entry)) (now (bytes .exit)) ⌝ }
 {
     let mut name = io::buffer();
     let length = os::arg(argument, &mut name);
@@ -116,7 +116,7 @@ fn read(argument: usize, most: usize, bytes: &mut [u8]) -> Input
 }
 
 fn read_named(name: &[u8], most: usize, bytes: &mut [u8]) -> Input
-    ensures { λ r. ⌜ Held r (now (bytes .exit)) ⌝ }
+    ensures { λ r. ⌜ Held r (now (bytes .entry)) (now (bytes .exit)) ⌝ }
 {
     let fd = os::open_read(name);
     if fd < 0 {
@@ -130,7 +130,7 @@ fn read_named(name: &[u8], most: usize, bytes: &mut [u8]) -> Input
 
 // What was read, if that was done and is not too long.
 fn taken(found: Input, most: usize, name: &[u8]) -> Input
-    ensures { λ r. ⌜ ((bytes : List ℕ) → Held found bytes → Held r bytes) ⌝ }
+    ensures { λ r. ⌜ ((before after : List ℕ) → Held found before after → Held r before after) ⌝ }
 {
     let Input::Whole { total, .. } = found else {
         os::fail(name);

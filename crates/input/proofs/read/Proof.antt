@@ -2,20 +2,24 @@
 -- Assumes nothing.
 use Prim.Native.Nat.{_*_, _-_, _≤_}
 use native.Mathlib.Omega.{arith}
-use mathlib.Core.Path.{_≡_, refl}
+use mathlib.Core.Path.{_≡_, refl, sym}
 use lib.ListN.{length}
+use lib.Seq.{length-take-le}
+use mathlib.Core.List.{[]}
+use Rattle.input.specs.Held.{Begins}
+use Rattle.input.proofs.Kept.{nothing-yet, begins-more}
 use borrow.Author.Needs.{needs}
 use Rattle.input.proofs.read.Statement.{statement}
 use Rattle.input.proofs.read.Tie as tie
 
 abbrev Inv-loop : tie.InvT-loop
-Inv-loop fd beginning₀ total₀ pieces₀ beginning total pieces = (total ≤ 65536 * pieces) × (length beginning ≡ length beginning₀)
+Inv-loop fd beginning₀ total₀ pieces₀ beginning total pieces = (total ≤ 65536 * pieces) × (length beginning ≡ length beginning₀) × Begins total beginning₀ beginning
 
 abbrev μ-loop : tie.MeasureT-loop
 μ-loop fd beginning₀ total₀ pieces₀ beginning total pieces = 4294967295 - pieces
 
 loop-holds : tie.Need-loop-holds Inv-loop μ-loop
-loop-holds c = (omega arith, refl)
+loop-holds c = (omega arith, refl, ([], refl, sym (nothing-yet _)))
 
 large-buffer-requires : tie.Need-large-buffer-requires Inv-loop μ-loop
 large-buffer-requires c κs = search needs
@@ -39,7 +43,7 @@ same-length-2 : tie.Need-same-length-2 Inv-loop μ-loop
 same-length-2 c = omega arith
 
 returns-2 : tie.Need-returns-2 Inv-loop μ-loop
-returns-2 c = c .least .ensures
+returns-2 c = (c .least .ensures, c .before .before .before .before .before .before .before .before .loop .inv .2)
 
 slice-aggregate-count : tie.Need-slice-aggregate-count Inv-loop μ-loop
 slice-aggregate-count c = search needs
@@ -66,7 +70,9 @@ loop-less : tie.Need-loop-less Inv-loop μ-loop
 loop-less c = omega arith
 
 loop-again : tie.Need-loop-again Inv-loop μ-loop
-loop-again c = (omega arith, omega arith)
+loop-again c =
+    let loop = c .before .before .before .before .before .before .before .before .before .before .before .before .before .before .loop in
+    (omega arith, omega arith, begins-more _ _ _ _ _ _ (length-take-le _ _ (omega arith)) (loop .inv .2) (c .before .before .keep .ensures))
 
 same-length-3 : tie.Need-same-length-3 Inv-loop μ-loop
 same-length-3 c = omega arith

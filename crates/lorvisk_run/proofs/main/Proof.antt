@@ -6,7 +6,7 @@ use mathlib.Core.Path.{refl}
 use mathlib.Core.Bool.{not}
 use lib.Dec.{eqb, ltb}
 use borrow.Author.Tests.{ltb-false}
-use Rattle.lorvisk_run.proofs.Reading.{first-fails}
+use Rattle.lorvisk_run.proofs.Arguments.{first-fails}
 use Rattle.lorvisk_run.proofs.main.Statement.{statement}
 use Rattle.lorvisk_run.proofs.main.Tie as tie
 

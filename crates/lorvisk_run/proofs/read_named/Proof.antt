@@ -26,7 +26,7 @@ same-length : tie.Need-same-length
 same-length c = search needs
 
 returns-2 : tie.Need-returns-2
-returns-2 c = c .before .taken .ensures _ (c .before .before .before .before .read .ensures)
+returns-2 c = c .before .taken .ensures _ _ (c .before .before .before .before .read .ensures)
 
 pub read-named-spec : {M : Type 1} → statement M
 read-named-spec =

@@ -1,7 +1,7 @@
 -- `run_four` lends on what is held.
 -- Assumes nothing.
 use mathlib.Core.Path.{refl}
-use Rattle.lorvisk_run.proofs.Reading.{within, all-held}
+use Rattle.input.proofs.Holding.{within, all-held}
 use borrow.Author.Needs.{needs}
 use Rattle.lorvisk_run.proofs.run_four.Statement.{statement}
 use Rattle.lorvisk_run.proofs.run_four.Tie as tie
@@ -88,28 +88,28 @@ returns-4 : tie.Need-returns-4
 returns-4 c = tt
 
 array-share-prefix-file : tie.Need-array-share-prefix-file
-array-share-prefix-file c = within _ (c .before .before .before .before .before .before .before .before .before .before .read-file .given .1) (c .before .before .before .before .before .before .before .before .before .before .before .before .before .before .before .before .before .before .before .before .before .before .read .ensures)
+array-share-prefix-file c = within _ _ (c .before .before .before .before .before .before .before .before .before .before .read-file .given .1) (c .before .before .before .before .before .before .before .before .before .before .before .before .before .before .before .before .before .before .before .before .before .before .read .ensures)
 
 slice-aggregate-beginning : tie.Need-slice-aggregate-beginning
-slice-aggregate-beginning c = all-held _ (c .before .before .before .before .before .before .before .before .before .before .before .read-file .given .1) (c .before .before .before .before .before .before .before .before .before .before .before .before .before .before .before .before .before .before .before .before .before .before .before .read .ensures)
+slice-aggregate-beginning c = all-held _ _ (c .before .before .before .before .before .before .before .before .before .before .before .read-file .given .1) (c .before .before .before .before .before .before .before .before .before .before .before .before .before .before .before .before .before .before .before .before .before .before .before .read .ensures)
 
 array-borrow-prefix-global : tie.Need-array-borrow-prefix-global
-array-borrow-prefix-global c = within _ (c .before .before .before .before .before .before .before .before .read-global .given .1) (c .before .before .before .before .before .before .before .before .before .before .before .before .before .before .before .before .before .before .before .before .read2 .ensures)
+array-borrow-prefix-global c = within _ _ (c .before .before .before .before .before .before .before .before .read-global .given .1) (c .before .before .before .before .before .before .before .before .before .before .before .before .before .before .before .before .before .before .before .before .read2 .ensures)
 
 slice-aggregate-run-lent : tie.Need-slice-aggregate-run-lent
-slice-aggregate-run-lent c = all-held _ (c .before .before .before .before .before .before .before .before .before .read-global .given .1) (c .before .before .before .before .before .before .before .before .before .before .before .before .before .before .before .before .before .before .before .before .before .read2 .ensures)
+slice-aggregate-run-lent c = all-held _ _ (c .before .before .before .before .before .before .before .before .before .read-global .given .1) (c .before .before .before .before .before .before .before .before .before .before .before .before .before .before .before .before .before .before .before .before .before .read2 .ensures)
 
 array-borrow-prefix-shared : tie.Need-array-borrow-prefix-shared
-array-borrow-prefix-shared c = within _ (c .before .before .before .before .before .before .read-shared .given .1) (c .before .before .before .before .before .before .before .before .before .before .before .before .before .before .before .before .before .before .read3 .ensures)
+array-borrow-prefix-shared c = within _ _ (c .before .before .before .before .before .before .read-shared .given .1) (c .before .before .before .before .before .before .before .before .before .before .before .before .before .before .before .before .before .before .read3 .ensures)
 
 slice-aggregate-run-lent-2 : tie.Need-slice-aggregate-run-lent-2
-slice-aggregate-run-lent-2 c = all-held _ (c .before .before .before .before .before .before .before .read-shared .given .1) (c .before .before .before .before .before .before .before .before .before .before .before .before .before .before .before .before .before .before .before .read3 .ensures)
+slice-aggregate-run-lent-2 c = all-held _ _ (c .before .before .before .before .before .before .before .read-shared .given .1) (c .before .before .before .before .before .before .before .before .before .before .before .before .before .before .before .before .before .before .before .read3 .ensures)
 
 array-borrow-prefix-loads : tie.Need-array-borrow-prefix-loads
-array-borrow-prefix-loads c = within _ (c .before .before .before .before .read-loads .given .1) (c .before .before .before .before .before .before .before .before .before .before .before .before .before .before .before .before .read4 .ensures)
+array-borrow-prefix-loads c = within _ _ (c .before .before .before .before .read-loads .given .1) (c .before .before .before .before .before .before .before .before .before .before .before .before .before .before .before .before .read4 .ensures)
 
 slice-aggregate-run-lent-3 : tie.Need-slice-aggregate-run-lent-3
-slice-aggregate-run-lent-3 c = all-held _ (c .before .before .before .before .before .read-loads .given .1) (c .before .before .before .before .before .before .before .before .before .before .before .before .before .before .before .before .before .read4 .ensures)
+slice-aggregate-run-lent-3 c = all-held _ _ (c .before .before .before .before .before .read-loads .given .1) (c .before .before .before .before .before .before .before .before .before .before .before .before .before .before .before .before .before .read4 .ensures)
 
 run-lent-requires : tie.Need-run-lent-requires
 run-lent-requires c κs = tt

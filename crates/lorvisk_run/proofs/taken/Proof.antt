@@ -17,7 +17,7 @@ returns : tie.Need-returns
 returns c = search needs
 
 returns-2 : tie.Need-returns-2
-returns-2 c bytes h = rw (c .before .before .found .given .1) at h
+returns-2 c before after h = rw (c .before .before .found .given .1) at h
 
 write-all-requires : tie.Need-write-all-requires
 write-all-requires c κs = search needs
