@@ -124,10 +124,10 @@ fn check_alignment(event: &Event) -> Result<(), String> {
 }
 
 fn aligned(space: Space, address: u32, alignment: u32) -> Result<(), String> {
-    // An alignment of zero, which no field allows, divides nothing and refuses nothing.
     match address.checked_rem(alignment) {
-        None | Some(0) => Ok(()),
-        Some(_) => Err(format!(
+        Some(0) => Ok(()),
+        // An alignment of zero, which no field allows, is refused too.
+        _ => Err(format!(
             "{space} address {address} is not a multiple of {alignment}"
         )),
     }

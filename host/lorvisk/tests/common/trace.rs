@@ -1,4 +1,5 @@
-//! Trace files and verdict sheets, byte for byte, as document 01 lays them out.
+//! Trace files and verdict sheets, byte for byte, as document 01 lays them out. They are not taken from `second` or `traces`,
+//! so that a mistake in laying out a file shows.
 
 pub const GLOBAL: u8 = 0;
 pub const SHARED: u8 = 1;
