@@ -1,16 +1,13 @@
 -- The beginning of a file tells its answer.
 -- Assumes nothing.
-use Prim.Native.Nat.{ℕ, zero, suc, _+_, _*_, _-_, _≤_, _<_}
+use Prim.Native.Nat.{ℕ, suc, _+_, _-_, _≤_, _<_}
 use native.Mathlib.Omega.{arith}
 use mathlib.Core.Path.{_≡_, refl, sym, ap, ap₂, _∙_}
-use mathlib.Core.Bool.{Bool, true, false, cond, _&&_, true≢false, and-false}
+use mathlib.Core.Bool.{true, false, _&&_, true≢false, and-false}
 use mathlib.Core.List.{List, [], _∷_, _++_, map}
-use lib.ListN.{length, take, length-take}
-use lib.Seq.{take-all}
-use borrow.Author.Tests.{le-leb, lt-leb}
+use lib.ListN.{length, take}
 use Rattle.answer.specs.declared.Answer.{Answer}
-use Rattle.answer.specs.declared.Answer.the-variants.{WrongShape}
-use Rattle.answer.specs.Table.{eventLimit}
+use Rattle.answer.specs.Table.{eventLimit, fitNamed, fit}
 use Rattle.event.specs.declared.Event.{Event}
 use Rattle.decoder.specs.declared.Item.{Item}
 use Rattle.decoder.specs.declared.Item.the-variants.{Decoded}
@@ -18,16 +15,19 @@ use Rattle.decoder.specs.Kinds.{isDecoded}
 use Rattle.trace.specs.declared.Header.{Header}
 use Rattle.trace.specs.declared.Shape.{Shape}
 use Rattle.trace.specs.declared.Shape.the-variants.{Formed, Refused}
-use Rattle.trace.specs.File.{shapeOf, firstItems, itemIn, contentsOf, fileOf}
-use Rattle.trace.specs.Beginning.{heldItemIn}
+use Rattle.trace.specs.File.{shapeOf, firstItems, itemIn, Contents, refused, recorded, contentsOf, fileOf}
+use Rattle.trace.specs.Beginning.{enough, heldItemIn, heldContents, heldOf}
 use Rattle.trace.proofs.Faults.{allDecoded, all-append, length-first, further}
+use Rattle.trace.proofs.Alike.{Following, Alike, same, up-to, one-more-same, alike}
 use Rattle.trace.proofs.Shapes.{counted}
-use Rattle.trace.proofs.Held.{shape-decided, item-there}
+use Rattle.trace.proofs.Held.{held-whole, shape-decided, item-there}
 use Rattle.rules.specs.Faults.{Lengths}
 use Rattle.rules.specs.Answers.{answerOf, lengthsIn, answerOfContents, answerOfFile}
 use Rattle.rules.specs.Theorems.{IsAccepted}
 use Rattle.rules.proofs.Accepted.{accepted-items, refused-more}
-use Rattle.judge.specs.Beginnings.{heldContents, answerOfBeginning}
+use Rattle.rules.proofs.Right.{Fits}
+use Rattle.rules.proofs.Files.{of-shape, list-fits}
+use Rattle.judge.specs.Beginnings.{answerOfBeginning}
 
 -- ---- lists of items that agree up to the first that does not decode have the same answer
 all-events : (es : List Event) → allDecoded (map Decoded es) ≡ true
@@ -56,106 +56,98 @@ module _ (lengths : Lengths) where
       ∙ refused-more lengths rest (firstItems item (suc k)) (omega (arith, ap length split, length-first item n)) (stops item k bad)
 
   module _ (a b : ℕ → Item) where
-    -- so far they are the same and decode, or they are the same up to one that does not
-    data Alike (n : ℕ) : Type 0 where
-      same : firstItems b n ≡ firstItems a n → allDecoded (firstItems a n) ≡ true → Alike n
-      up-to : (k : ℕ) → k < n → firstItems b (suc k) ≡ firstItems a (suc k) → b k ≡ a k → isDecoded (a k) ≡ false → Alike n
-
-    alike : (n : ℕ) → ((i : ℕ) → i < n → allDecoded (firstItems a i) ≡ true → b i ≡ a i) → Alike n
-    unfolding firstItems
-    alike zero agree = same refl refl
-    alike (suc n) agree = by-way (alike n (λ i l. agree i (omega arith)))
-      where
-        by-item : firstItems b n ≡ firstItems a n → allDecoded (firstItems a n) ≡ true → b n ≡ a n
-            → (t : Bool) → isDecoded (a n) ≡ t → Alike (suc n)
-        by-item e d q true h =
-            same (ap₂ (λ l x. l ++ x ∷ []) e q) (all-append (firstItems a n) (a n ∷ []) ∙ ap₂ (λ s t. s && (t && true)) d h)
-        by-item e d q false h = up-to n (omega arith) (ap₂ (λ l x. l ++ x ∷ []) e q) q h
-
-        by-way : Alike n → Alike (suc n)
-        by-way (same e d) = by-item e d (agree n (omega arith) d) (isDecoded (a n)) refl
-        by-way (up-to k l e q h) = up-to k (omega arith) e q h
-
-    answers-agree : (n : ℕ) → n ≤ eventLimit → ((i : ℕ) → i < n → allDecoded (firstItems a i) ≡ true → b i ≡ a i)
+    answers-agree : (n : ℕ) → n ≤ eventLimit → Following a b n
         → answerOf lengths (firstItems b n) ≡ answerOf lengths (firstItems a n)
-    answers-agree n few agree = by-way (alike n agree)
+    answers-agree n few follows = by-way (alike a b n follows)
       where
-        by-way : Alike n → answerOf lengths (firstItems b n) ≡ answerOf lengths (firstItems a n)
+        by-way : Alike a b n → answerOf lengths (firstItems b n) ≡ answerOf lengths (firstItems a n)
         by-way (same e d) = ap (answerOf lengths) e
-        by-way (up-to k l e q h) =
-            known b k n l few (ap isDecoded q ∙ h) ∙ ap (answerOf lengths) e ∙ sym (known a k n l few h)
+        by-way (up-to k l e d q h) =
+            known b k n l few (ap isDecoded q ∙ h) ∙ ap (answerOf lengths) (one-more-same a b k e q) ∙ sym (known a k n l few h)
 
     -- and where they are accepted, they are the same
-    same-accepted : (n : ℕ) → n ≤ eventLimit → ((i : ℕ) → i < n → allDecoded (firstItems a i) ≡ true → b i ≡ a i)
+    same-accepted : (n : ℕ) → n ≤ eventLimit → Following a b n
         → IsAccepted (answerOf lengths (firstItems b n)) → firstItems b n ≡ firstItems a n
-    same-accepted n few agree h = by-way (alike n agree)
+    same-accepted n few follows h = by-way (alike a b n follows)
       where
-        by-way : Alike n → firstItems b n ≡ firstItems a n
+        by-way : Alike a b n → firstItems b n ≡ firstItems a n
         by-way (same e d) = e
-        by-way (up-to k l e q bad) = absurd (stops b k (ap isDecoded q ∙ bad) (rw (known b k n l few (ap isDecoded q ∙ bad)) at h))
+        by-way (up-to k l e d q bad) = absurd (stops b k (ap isDecoded q ∙ bad) (rw (known b k n l few (ap isDecoded q ∙ bad)) at h))
 
 -- ---- so the beginning of a file has the file's answer
-pub beginning-judged : (f : List ℕ) (k : ℕ) (header : Header) → 12 + 28 * eventLimit ≤ k → shapeOf eventLimit f (length f) ≡ Formed header
-    → answerOf (lengthsIn header) (firstItems (heldItemIn (take k f)) (header .events))
-    ≡ answerOf (lengthsIn header) (firstItems (itemIn f) (header .events))
-beginning-judged f k header enough e =
-    answers-agree (lengthsIn header) (itemIn f) (heldItemIn (take k f)) (header .events)
-    (counted eventLimit (length f) f header e .1)
-    (λ i few decoded. item-there eventLimit k f header i enough e few decoded)
+module _ (f : List ℕ) (k : ℕ) (long : enough eventLimit ≤ k) where
+  module _ (header : Header) (e : shapeOf eventLimit f (length f) ≡ Formed header) where
+    pub beginning-judged :
+        answerOf (lengthsIn header) (firstItems (heldItemIn (take k f)) (header .events))
+        ≡ answerOf (lengthsIn header) (firstItems (itemIn f) (header .events))
+    beginning-judged =
+        answers-agree (lengthsIn header) (itemIn f) (heldItemIn (take k f)) (header .events)
+        (counted eventLimit (length f) f header e .1)
+        (λ i few decoded. item-there eventLimit k f header i long e few decoded)
 
--- and, where it is accepted, the file's items
-pub beginning-items : (f : List ℕ) (k : ℕ) (header : Header) → 12 + 28 * eventLimit ≤ k → shapeOf eventLimit f (length f) ≡ Formed header
-    → IsAccepted (answerOf (lengthsIn header) (firstItems (heldItemIn (take k f)) (header .events)))
-    → firstItems (heldItemIn (take k f)) (header .events) ≡ firstItems (itemIn f) (header .events)
-beginning-items f k header enough e =
-    same-accepted (lengthsIn header) (itemIn f) (heldItemIn (take k f)) (header .events)
-    (counted eventLimit (length f) f header e .1)
-    (λ i few decoded. item-there eventLimit k f header i enough e few decoded)
+    -- and, where it is accepted, the file's items
+    pub beginning-items : IsAccepted (answerOf (lengthsIn header) (firstItems (heldItemIn (take k f)) (header .events)))
+        → firstItems (heldItemIn (take k f)) (header .events) ≡ firstItems (itemIn f) (header .events)
+    beginning-items =
+        same-accepted (lengthsIn header) (itemIn f) (heldItemIn (take k f)) (header .events)
+        (counted eventLimit (length f) f header e .1)
+        (λ i few decoded. item-there eventLimit k f header i long e few decoded)
 
-pub beginning-answers : (f : List ℕ) (k : ℕ) → 12 + 28 * eventLimit ≤ k
-    → answerOfBeginning (take k f) (length f) ≡ answerOfFile f
-unfolding answerOfBeginning answerOfFile fileOf
-beginning-answers f k enough =
-    ap (λ t. cond t (answerOfContents (heldContents (take k f) (shapeOf eventLimit (take k f) (length f)))) WrongShape)
-    (le-leb (length (take k f)) (length f) (omega (arith, length-take k f)))
-    ∙ ap (λ s. answerOfContents (heldContents (take k f) s)) (shape-decided eventLimit k f enough)
-    ∙ by-shape (shapeOf eventLimit f (length f)) refl
-  where
-    by-shape : (s : Shape) → shapeOf eventLimit f (length f) ≡ s
-        → answerOfContents (heldContents (take k f) s) ≡ answerOfContents (contentsOf f s)
-    by-shape (Refused answer) e = refl
-    by-shape (Formed header) e = beginning-judged f k header enough e
+  pub beginning-answers : answerOfBeginning (take k f) (length f) ≡ answerOfFile f
+  unfolding answerOfBeginning answerOfFile heldOf fileOf
+  beginning-answers =
+      ap (λ s. answerOfContents (heldContents (take k f) s)) (shape-decided eventLimit k f long)
+      ∙ by-shape (shapeOf eventLimit f (length f)) refl
+    where
+      by-shape : (s : Shape) → shapeOf eventLimit f (length f) ≡ s
+          → answerOfContents (heldContents (take k f) s) ≡ answerOfContents (contentsOf f s)
+      by-shape (Refused answer) e = refl
+      by-shape (Formed header) e = beginning-judged header e
 
 -- and the whole file is a beginning of itself
 pub whole-answers : (f : List ℕ) → answerOfBeginning f (length f) ≡ answerOfFile f
-whole-answers f =
-    let k = length f + (12 + 28 * eventLimit) in
-    ap (λ g. answerOfBeginning g (length f)) (sym (take-all k f (omega arith))) ∙ beginning-answers f k (omega arith)
+unfolding answerOfBeginning answerOfFile
+whole-answers f = ap answerOfContents (held-whole eventLimit f)
 
 -- ---- what is told of a beginning
 module _ (f : List ℕ) (total : ℕ) where
-  pub told-long : total < length f → answerOfBeginning f total ≡ WrongShape
-  unfolding answerOfBeginning
-  told-long h = rw (lt-leb (length f) total h)
-
-  module _ (within : length f ≤ total) where
-    by-shape-of : (s : Shape) → shapeOf eventLimit f total ≡ s
-        → answerOfBeginning f total ≡ answerOfContents (heldContents f s)
-    unfolding answerOfBeginning
-    by-shape-of s e = rw (le-leb (length f) total within) (ap (λ s. answerOfContents (heldContents f s)) e)
-
-    pub told-refused : (a : Answer) → shapeOf eventLimit f total ≡ Refused a → answerOfBeginning f total ≡ a
-    told-refused a e = by-shape-of (Refused a) e
-
-    pub told-formed : (header : Header) → shapeOf eventLimit f total ≡ Formed header
-        → answerOfBeginning f total ≡ answerOf (lengthsIn header) (firstItems (heldItemIn f) (header .events))
-    told-formed header e = by-shape-of (Formed header) e
+  pub told-shape : (s : Shape) → shapeOf eventLimit f total ≡ s → answerOfBeginning f total ≡ answerOfContents (heldContents f s)
+  unfolding answerOfBeginning heldOf
+  told-shape s e = ap (λ s. answerOfContents (heldContents f s)) e
 
   pub told : (a : Answer) → a ≡ answerOfBeginning f total
-      → ((file : List ℕ) (held : ℕ) → 12 + 28 * eventLimit ≤ held → f ≡ take held file → total ≡ length file
+      → ((file : List ℕ) (held : ℕ) → enough eventLimit ≤ held → f ≡ take held file → total ≡ length file
       → a ≡ answerOfFile file)
       × (a ≡ answerOfBeginning f total)
   told a e = (
-    λ file held enough begins whole. e ∙ ap₂ answerOfBeginning begins whole ∙ beginning-answers file held enough,
+    λ file held long begins whole. e ∙ ap₂ answerOfBeginning begins whole ∙ beginning-answers file held long,
     e,
   )
+
+-- ---- what a beginning says: the refusal of its shape, or no more items than the limit
+pub data Says : Contents → Type 0 where
+  shapeless : {a : Answer} → ¬ IsAccepted a → Fits a → Says (refused a)
+  listed : {header : Header} {items : List Item} → length items ≤ eventLimit → Says (recorded header items)
+
+pub says : (f : List ℕ) (total : ℕ) → Says (heldOf eventLimit f total)
+unfolding heldOf fit fitNamed
+says f total = by-shape (shapeOf eventLimit f total) refl
+  where
+    by-shape : (s : Shape) → shapeOf eventLimit f total ≡ s → Says (heldContents f s)
+    by-shape (Refused answer) e =
+        let refuses = of-shape (λ a. ¬ IsAccepted a) (λ h. omega (arith, h)) (λ h. omega (arith, h)) (λ h. omega (arith, h)) f total in
+        let fits = of-shape Fits refl refl refl f total in
+        shapeless (rw e at refuses) (rw e at fits)
+    by-shape (Formed header) e =
+        let few : length (firstItems (heldItemIn f) (header .events)) ≤ eventLimit =
+        rw (length-first (heldItemIn f) (header .events)) (counted eventLimit total f header e .1) in
+        listed few
+
+-- so a sheet can hold its answer
+pub beginning-fits : (f : List ℕ) (total : ℕ) → Fits (answerOfBeginning f total)
+unfolding answerOfBeginning
+beginning-fits f total = by-says (says f total)
+  where
+    by-says : {contents : Contents} → Says contents → Fits (answerOfContents contents)
+    by-says (shapeless refuses fits) = fits
+    by-says (listed {header = header} {items = items} few) = list-fits (lengthsIn header) items

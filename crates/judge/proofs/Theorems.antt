@@ -11,6 +11,7 @@ use Rattle.answer.specs.declared.Answer.the-variants as answer
 use Rattle.answer.specs.Numbers.{numbersOf}
 use Rattle.answer.specs.Table.{fit}
 use Rattle.answer.proofs.Both.{both}
+use Rattle.answer.proofs.Given.{fits-given}
 use Rattle.decoder.specs.declared.Item.{Item}
 use Rattle.rules.specs.Faults.{Lengths}
 use Rattle.rules.specs.Answers.{answerOf}
@@ -19,9 +20,10 @@ use Rattle.rules.proofs.Files.{answer-recorded}
 use Rattle.judge.specs.declared.State.{State}
 use Rattle.judge.specs.AsLeft.{AsLeft}
 use Rattle.judge.specs.Step.{isNoVerdict, isRefusal, isSound, opened, answerIn, counted, After, leaving, stepOf}
-use Rattle.judge.specs.Theorems.{steps, StepsAnswer, BeginningAnswers, StepsAnswerFiles, PlacesFit, RefusalsChangeNone, AccessesAndCommitsChangeNone, OperationsChangeTheirRecord, WaitsKeepRecords, OneRecordEach, WordsPastStay, AnyStateAnswers, FaultsShow, without, LostRefusalsShow}
+use Rattle.judge.specs.Beginnings.{answerOfBeginning}
+use Rattle.judge.specs.Theorems.{steps, StepsAnswer, StepsAnswerFiles, BeginningAnswers, GivenOfBeginnings, PlacesFit, RefusalsChangeNone, AccessesAndCommitsChangeNone, OperationsChangeTheirRecord, WaitsKeepRecords, OneRecordEach, WordsPastStay, AnyStateAnswers, FaultsShow, without, LostRefusalsShow}
 use Rattle.judge.proofs.Sound.{counted-refusal}
-use Rattle.judge.proofs.Beginnings.{beginning-answers}
+use Rattle.judge.proofs.Beginnings.{beginning-answers, beginning-fits}
 use Rattle.judge.proofs.Carrying.{step-carries, step-counted}
 use Rattle.judge.proofs.Leaving.{How, passing, over, how}
 use Rattle.judge.proofs.Places.{refusal-unchanged, none-changed, record-put, records-kept, past-unchanged, one-each}
@@ -52,6 +54,10 @@ stepsAnswerFiles f lengths items ranges marks holds long-ranges long-marks =
 pub beginningAnswers : BeginningAnswers
 unfolding BeginningAnswers
 beginningAnswers = beginning-answers
+
+pub givenOfBeginnings : GivenOfBeginnings
+unfolding GivenOfBeginnings
+givenOfBeginnings f total = fits-given (answerOfBeginning f total) (beginning-fits f total)
 
 -- ---- the places
 pub placesFit : PlacesFit

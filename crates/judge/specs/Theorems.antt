@@ -1,5 +1,5 @@
 -- What holds of the judge. Each statement is a type; proofs/Theorems.antt proves it, as `stepsAnswer : StepsAnswer`.
-use Prim.Native.Nat.{ℕ, _+_, _*_, _≤_}
+use Prim.Native.Nat.{ℕ, _*_, _≤_}
 use mathlib.Core.Path.{_≡_}
 use mathlib.Core.Bool.{Bool, true, false, not, _||_}
 use mathlib.Core.List.{List, [], _∷_, map}
@@ -12,6 +12,7 @@ use Rattle.event.specs.declared.Event.{Event}
 use Rattle.event.specs.declared.Event.the-variants.{Load, Store, Copy, Commit, Wait, WaitAll, BulkCopy, BulkReduction, BulkCommit, BulkWait}
 use Rattle.decoder.specs.declared.Item.{Item}
 use Rattle.decoder.specs.declared.Item.the-variants.{Decoded}
+use Rattle.trace.specs.Beginning.{enough}
 use Rattle.operations.specs.declared.Record.{Record}
 use Rattle.operations.specs.declared.Wait as operations
 use Rattle.operations.specs.Table.{rangeWords, markWords, records, placed}
@@ -51,11 +52,15 @@ StepsAnswerFiles =
     → placeLength ≤ length ranges → placeLength ≤ length marks
     → answerIn (steps items (leaving (opened lengths) ranges marks) .state) ≡ answerOfFile f
 
--- The first bytes of a file, 12 and 28 more for each event of the limit, and its length tell its answer.
+-- Enough first bytes of a file and its length tell its answer.
 unfoldable pub BeginningAnswers : Type 0
 BeginningAnswers =
-    (file : List ℕ) (held : ℕ) → 12 + 28 * eventLimit ≤ held
+    (file : List ℕ) (held : ℕ) → enough eventLimit ≤ held
     → answerOfBeginning (take held file) (length file) ≡ answerOfFile file
+
+-- Whatever bytes and length are handed over for a beginning and its file's, the answer is one that the sheet's reader gives.
+unfoldable pub GivenOfBeginnings : Type 0
+GivenOfBeginnings = (f : List ℕ) (total : ℕ) → Given (answerOfBeginning f total)
 
 -- ---- The places, whatever the state and their words.
 

@@ -6,11 +6,11 @@ use trace::Header;
 use trace::Shape;
 ghost use mathlib.Core.Path.{_≡_};
 ghost use mathlib.Core.List.{List};
-ghost use Prim.Native.Nat.{ℕ, _+_, _*_, _≤_};
+ghost use Prim.Native.Nat.{ℕ, _≤_};
 ghost use lib.ListN.{length, take};
 ghost use Rattle.answer.specs.Table.{eventLimit};
 ghost use Rattle.trace.specs.File.{eventsIn, entryAt, firstItems};
-ghost use Rattle.trace.specs.Beginning.{heldItemIn};
+ghost use Rattle.trace.specs.Beginning.{enough, heldItemIn};
 ghost use Rattle.rules.specs.Answers.{answerOf, lengthsIn, answerOfFile};
 ghost use Rattle.judge.specs.AsLeft.{placeLength};
 ghost use Rattle.judge.specs.Beginnings.{answerOfBeginning};
@@ -22,15 +22,11 @@ pub fn judge(file: &[u8]) -> Answer
     judge_beginning(file, file.len())
 }
 
-// The answer of a file of `total` bytes, by its first bytes: `trace::ENOUGH` of them are enough. No file has more first
-// bytes than bytes.
+// The answer of a file of `total` bytes, by its first bytes: `trace::ENOUGH` of them are enough.
 pub fn judge_beginning(beginning: &[u8], total: usize) -> Answer
-    ensures { λ r. ⌜ ((file : List ℕ) (held : ℕ) → 12 + 28 * eventLimit ≤ held → now (beginning .entry) ≡ take held file → total ≡ length file → r ≡ answerOfFile file) ⌝ }
+    ensures { λ r. ⌜ ((file : List ℕ) (held : ℕ) → enough eventLimit ≤ held → now (beginning .entry) ≡ take held file → total ≡ length file → r ≡ answerOfFile file) ⌝ }
     ensures { λ r. ⌜ r ≡ answerOfBeginning (now (beginning .entry)) total ⌝ }
 {
-    if total < beginning.len() {
-        return Answer::WrongShape;
-    }
     match trace::shape_of(beginning, total) {
         Shape::Refused(answer) => answer,
         Shape::Formed(header) => {

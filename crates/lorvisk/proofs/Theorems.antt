@@ -25,12 +25,12 @@ judgedWord f =
 pub ranWord : RanWord
 unfolding RanWord RanAs GivenInRuns Unpacks ZeroIsNoVerdict OneRun
 ranWord f before word after (answer, is-word, ran) =
-    let given : Given answer = rw (ran .answers) (givenInRuns f before) in
+    let given : Given answer = rw (ran .answers) (givenInRuns .1 f before) in
     let told = ap unpacked is-word ∙ unpacks answer given .1 in (
       rw told ran,
       λ none. zeroIsNoVerdict .2 answer given (sym is-word ∙ none),
       λ word′ after′ (answer′, is-word′, ran′).
-          let one = oneRun f before answer answer′ after after′ ran ran′ in
+          let one = oneRun .1 f before answer answer′ after after′ ran ran′ in
           (is-word ∙ ap packed (one .0) ∙ sym is-word′, one .1),
     )
 

@@ -53,7 +53,7 @@ module _ (P : Answer → Type 0) where
       let fourth = first memories WrongMemoryLength (Formed (headerIn f)) in
       let third = first (isShape f total) WrongShape fourth in
       let second = first (leb (eventsIn f) eventLimit) TooManyEvents third in
-      or-later (leb 12 total && leb 12 (length f)) WrongShape second p
+      or-later (leb 12 (length f) && leb (length f) total) WrongShape second p
       (or-later (leb (eventsIn f) eventLimit) TooManyEvents third q
       (or-later (isShape f total) WrongShape fourth p (or-later memories WrongMemoryLength (Formed (headerIn f)) r tt)))
 

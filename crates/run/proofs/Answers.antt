@@ -1,6 +1,6 @@
 -- The answer of a run, by what a file says; and a file's run, told by its beginning.
 -- Assumes nothing.
-use Prim.Native.Nat.{ℕ, _+_, _*_, _≤_, _<_}
+use Prim.Native.Nat.{ℕ, _≤_, _<_}
 use native.Mathlib.Omega.{arith}
 use mathlib.Core.Path.{_≡_, refl, sym, ap, ap₂, subst, _∙_}
 use mathlib.Core.Bool.{Bool, true, false}
@@ -8,8 +8,7 @@ use mathlib.Core.List.{List, [], _∷_}
 use denote.Enum.Declared.{tagOf}
 use types.Run.{OneOf, miss}
 use lib.Dec.{eqb}
-use lib.ListN.{length, take, length-take}
-use lib.Seq.{take-all}
+use lib.ListN.{length, take}
 use borrow.Author.Tests.{eqb-true, eqb-false, eq-eqb, ne-eqb, le-leb, lt-leb}
 use Rattle.answer.proofs.Answer.{the-type}
 use Rattle.answer.proofs.Both.{both}
@@ -21,16 +20,15 @@ use Rattle.trace.specs.declared.Header.{Header}
 use Rattle.trace.specs.declared.Shape.{Shape}
 use Rattle.trace.specs.declared.Shape.the-variants.{Formed, Refused}
 use Rattle.trace.specs.File.{shapeOf, firstItems, itemIn, Contents, refused, recorded, contentsOf, fileOf}
-use Rattle.trace.specs.Beginning.{heldItemIn}
+use Rattle.trace.specs.Beginning.{enough, heldItemIn, heldContents, heldOf}
 use Rattle.trace.proofs.Faults.{length-first}
 use Rattle.trace.proofs.Held.{shape-decided}
 use Rattle.rules.specs.Answers.{answerOf, lengthsIn}
 use Rattle.rules.specs.Theorems.{codeOf, IsAccepted}
-use Rattle.rules.proofs.Files.{of-shape}
-use Rattle.judge.specs.Beginnings.{heldContents, answerOfBeginning}
-use Rattle.judge.proofs.Beginnings.{beginning-items, beginning-judged, told-formed}
+use Rattle.judge.specs.Beginnings.{answerOfBeginning}
+use Rattle.judge.proofs.Beginnings.{beginning-items, beginning-judged, told-shape, Says, shapeless, says}
 use Rattle.moves.specs.Acting.{memories}
-use Rattle.run.specs.Running.{Lent, isAccepted, loadBytes, orNoRoom, areLent, answerOfRun, Ran, heldOf}
+use Rattle.run.specs.Running.{Lent, isAccepted, loadBytes, orNoRoom, areLent, answerOfRun, Ran}
 use Rattle.run.specs.Acting.{actedAll, left}
 use Rattle.run.proofs.Acted.{every-order}
 
@@ -50,11 +48,6 @@ no-acceptance (answer.OutOfRange event) tag h = omega (arith, h)
 no-acceptance (answer.Clash event partner) tag h = omega (arith, h)
 no-acceptance (answer.NoRoom event) tag h = omega (arith, h)
 no-acceptance answer.NotWritten tag h = omega (arith, h)
-
--- a refusal of the shape is none either
-pub shape-refuses : (f : List ℕ) (total : ℕ) (a : Answer) → shapeOf eventLimit f total ≡ Refused a → ¬ IsAccepted a
-shape-refuses f total a e =
-    rw e at (of-shape (λ a. ¬ IsAccepted a) (λ h. omega (arith, h)) (λ h. omega (arith, h)) (λ h. omega (arith, h)) f total)
 
 -- a run with a refusal for an answer leaves all as it was
 pub ran-refused : (contents : Contents) (before : Lent) (a : Answer) → a ≡ answerOfRun contents before → ¬ IsAccepted a
@@ -115,67 +108,56 @@ ran-accepted header items before h accepts fits = record {
 }
 
 -- ---- by the file's beginning
-module _ (f : List ℕ) (total : ℕ) where
-  pub held-long : total < length f → heldOf f total ≡ refused answer.WrongShape
-  unfolding heldOf
-  held-long h = rw (lt-leb (length f) total h)
-
-  pub held-within : length f ≤ total → heldOf f total ≡ heldContents f (shapeOf eventLimit f total)
-  unfolding heldOf
-  held-within h = rw (le-leb (length f) total h)
-
-  pub held-shape : length f ≤ total → (s : Shape) → shapeOf eventLimit f total ≡ s → heldOf f total ≡ heldContents f s
-  held-shape h s e = held-within h ∙ ap (heldContents f) e
+held-shape : (f : List ℕ) (total : ℕ) (s : Shape) → shapeOf eventLimit f total ≡ s → heldOf eventLimit f total ≡ heldContents f s
+unfolding heldOf
+held-shape f total s e = ap (heldContents f) e
 
 module _ (f : List ℕ) (total : ℕ) (before : Lent) where
-  pub long-refused : total < length f → Ran (heldOf f total) before answer.WrongShape before
-  long-refused h =
-      rw (held-long f total h)
-      (ran-refused (refused answer.WrongShape) before answer.WrongShape (run-refused answer.WrongShape before) (λ q. omega (arith, q)))
+  pub shape-refused : (a : Answer) → shapeOf eventLimit f total ≡ Refused a → Ran (heldOf eventLimit f total) before a before
+  shape-refused a e =
+      let contents = held-shape f total (Refused a) e in
+      rw contents (ran-refused (refused a) before a (run-refused a before) (no-verdict (rw contents at (says f total))))
+    where
+      no-verdict : Says (refused a) → ¬ IsAccepted a
+      no-verdict (shapeless refuses fits) = refuses
 
-  module _ (within : length f ≤ total) where
-    pub shape-refused : (a : Answer) → shapeOf eventLimit f total ≡ Refused a → Ran (heldOf f total) before a before
-    shape-refused a e =
-        rw (held-shape f total within (Refused a) e)
-        (ran-refused (refused a) before a (run-refused a before) (shape-refuses f total a e))
+  module _ (header : Header) (shape : shapeOf eventLimit f total ≡ Formed header) where
+    abbrev items : List Item
+    items = firstItems (heldItemIn f) (header .events)
 
-    module _ (header : Header) (shape : shapeOf eventLimit f total ≡ Formed header) where
-      abbrev items : List Item
-      items = firstItems (heldItemIn f) (header .events)
+    contents : heldOf eventLimit f total ≡ recorded header items
+    contents = held-shape f total (Formed header) shape
 
-      contents : heldOf f total ≡ recorded header items
-      contents = held-shape f total within (Formed header) shape
+    pub not-lent : areLent header before ≡ false → Ran (heldOf eventLimit f total) before answer.WrongMemoryLength before
+    not-lent h =
+        rw contents
+        (ran-refused (recorded header items) before answer.WrongMemoryLength (run-not-lent header items before h) (λ q. omega (arith, q)))
 
-      pub not-lent : areLent header before ≡ false → Ran (heldOf f total) before answer.WrongMemoryLength before
-      not-lent h =
+    module _ (h : areLent header before ≡ true) (a : Answer) (e : a ≡ answerOfBeginning f total) where
+      judged : a ≡ answerOf (lengthsIn header) items
+      judged = e ∙ told-shape f total (Formed header) shape
+
+      pub lent-refused : ¬ IsAccepted a → Ran (heldOf eventLimit f total) before a before
+      lent-refused refuses =
           rw contents
-          (ran-refused (recorded header items) before answer.WrongMemoryLength (run-not-lent header items before h) (λ q. omega (arith, q)))
+          (ran-refused (recorded header items) before a
+          (judged ∙ run-judged header items before h (rw (← judged) refuses)) refuses)
 
-      module _ (h : areLent header before ≡ true) (a : Answer) (e : a ≡ answerOfBeginning f total) where
-        judged : a ≡ answerOf (lengthsIn header) items
-        judged = e ∙ told-formed f total within header shape
+      module _ (accepts : IsAccepted a) where
+        pub judged-accepts : IsAccepted (answerOf (lengthsIn header) items)
+        judged-accepts = rw (← judged) accepts
 
-        pub lent-refused : ¬ IsAccepted a → Ran (heldOf f total) before a before
-        lent-refused refuses =
+        pub lent-no-room : length (before .loadRecord) < loadBytes items → Ran (heldOf eventLimit f total) before (answer.NoRoom (header .events)) before
+        lent-no-room over =
+            let count = ap answer.NoRoom (sym (length-first (heldItemIn f) (header .events))) in
             rw contents
-            (ran-refused (recorded header items) before a
-            (judged ∙ run-judged header items before h (rw (← judged) refuses)) refuses)
+            (ran-refused (recorded header items) before (answer.NoRoom (header .events))
+            (count ∙ run-no-room header items before h judged-accepts over) (λ q. omega (arith, q)))
 
-        module _ (accepts : IsAccepted a) where
-          pub judged-accepts : IsAccepted (answerOf (lengthsIn header) items)
-          judged-accepts = rw (← judged) accepts
-
-          pub lent-no-room : length (before .loadRecord) < loadBytes items → Ran (heldOf f total) before (answer.NoRoom (header .events)) before
-          lent-no-room over =
-              let count = ap answer.NoRoom (sym (length-first (heldItemIn f) (header .events))) in
-              rw contents
-              (ran-refused (recorded header items) before (answer.NoRoom (header .events))
-              (count ∙ run-no-room header items before h judged-accepts over) (λ q. omega (arith, q)))
-
-          pub lent-run : loadBytes items ≤ length (before .loadRecord) → (after : Lent)
-              → after ≡ left (actedAll items (memories (before .global) (before .shared) (before .loadRecord) 0))
-              → Ran (heldOf f total) before a after
-          lent-run fits after is = rw (contents, judged, is) (ran-accepted header items before h judged-accepts fits)
+        pub lent-run : loadBytes items ≤ length (before .loadRecord) → (after : Lent)
+            → after ≡ left (actedAll items (memories (before .global) (before .shared) (before .loadRecord) 0))
+            → Ran (heldOf eventLimit f total) before a after
+        lent-run fits after is = rw (contents, judged, is) (ran-accepted header items before h judged-accepts fits)
 
 -- a header with the lengths of what is lent
 pub lent-lengths : (events : ℕ) (before : Lent)
@@ -191,7 +173,7 @@ lent-header header before h =
     let s = eqb-true (header .shared) (length (before .shared)) (t .1) in
     ap₂ (λ m n. record { events = header .events; global = m; shared = n }) g s
 
-module _ (f : List ℕ) (k : ℕ) (enough : 12 + 28 * eventLimit ≤ k) {before after : Lent} {a : Answer} where
+module _ (f : List ℕ) (k : ℕ) (long : enough eventLimit ≤ k) {before after : Lent} {a : Answer} where
   -- where the beginning and the file hold different items, both are refused alike
   carried-items : (header : Header) → shapeOf eventLimit f (length f) ≡ Formed header
       → Ran (recorded header (firstItems (heldItemIn (take k f)) (header .events))) before a after
@@ -210,7 +192,7 @@ module _ (f : List ℕ) (k : ℕ) (enough : 12 + 28 * eventLimit ≤ k) {before 
       by-lent : ¬ IsAccepted judged → (t : Bool) → areLent header before ≡ t
           → answerOfRun (recorded header held) before ≡ answerOfRun (recorded header whole) before
       by-lent refuses true h =
-          let same = beginning-judged f k header enough e in
+          let same = beginning-judged f k long header e in
           sym (run-judged header held before h refuses) ∙ same ∙ run-judged header whole before h (rw (← same) refuses)
       by-lent refuses false h = sym (run-not-lent header held before h) ∙ run-not-lent header whole before h
 
@@ -220,37 +202,31 @@ module _ (f : List ℕ) (k : ℕ) (enough : 12 + 28 * eventLimit ≤ k) {before 
 
       by-acceptance : (t : Bool) → isAccepted judged ≡ t → Ran (recorded header whole) before a after
       by-acceptance true accepts =
-          rw (← beginning-items f k header enough e (eqb-true (codeOf judged) 1 accepts)) ran
+          rw (← beginning-items f k long header e (eqb-true (codeOf judged) 1 accepts)) ran
       by-acceptance false test =
           let refuses = eqb-false (codeOf judged) 1 test in
           let none = no-run refuses (areLent header before) refl in
           rw (ran .refusal none)
           (ran-refused (recorded header whole) before a (ran .answers ∙ by-lent refuses (areLent header before) refl) none)
 
-  pub carried : Ran (heldOf (take k f) (length f)) before a after → Ran (fileOf eventLimit f) before a after
+  pub carried : Ran (heldOf eventLimit (take k f) (length f)) before a after → Ran (fileOf eventLimit f) before a after
   unfolding fileOf
   carried ran = by-shape (shapeOf eventLimit f (length f)) refl (rw contents at ran)
     where
-      contents : heldOf (take k f) (length f) ≡ heldContents (take k f) (shapeOf eventLimit f (length f))
-      contents =
-          held-within (take k f) (length f) (omega (arith, length-take k f))
-          ∙ ap (heldContents (take k f)) (shape-decided eventLimit k f enough)
+      contents : heldOf eventLimit (take k f) (length f) ≡ heldContents (take k f) (shapeOf eventLimit f (length f))
+      contents = held-shape (take k f) (length f) _ (shape-decided eventLimit k f long)
 
       by-shape : (s : Shape) → shapeOf eventLimit f (length f) ≡ s
           → Ran (heldContents (take k f) s) before a after → Ran (contentsOf f s) before a after
       by-shape (Refused refusal) e r = r
       by-shape (Formed header) e r = carried-items header e r
 
--- the whole file is a beginning of itself
-pub whole : (f : List ℕ) → f ≡ take (length f + (12 + 28 * eventLimit)) f
-whole f = sym (take-all (length f + (12 + 28 * eventLimit)) f (omega arith))
-
 -- what is promised of a beginning
-pub told : (f : List ℕ) (total : ℕ) {before after : Lent} {a : Answer} → Ran (heldOf f total) before a after
-    → ((file : List ℕ) (held : ℕ) → 12 + 28 * eventLimit ≤ held → f ≡ take held file → total ≡ length file
+pub told : (f : List ℕ) (total : ℕ) {before after : Lent} {a : Answer} → Ran (heldOf eventLimit f total) before a after
+    → ((file : List ℕ) (held : ℕ) → enough eventLimit ≤ held → f ≡ take held file → total ≡ length file
     → Ran (fileOf eventLimit file) before a after)
-    × Ran (heldOf f total) before a after
+    × Ran (heldOf eventLimit f total) before a after
 told f total {before} {after} {a} ran = (
-  λ file held enough begins whole. carried file held enough (subst (λ c. Ran c before a after) (ap₂ heldOf begins whole) ran),
+  λ file held long begins whole. carried file held long (subst (λ c. Ran c before a after) (ap₂ (heldOf eventLimit) begins whole) ran),
   ran,
 )

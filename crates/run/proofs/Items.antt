@@ -4,7 +4,7 @@ use Prim.Native.Nat.{ℕ, suc, _+_, _-_, _≤_, _<_}
 use native.Mathlib.Nat.{zero-add}
 use native.Mathlib.Numerals.{add-one}
 use native.Mathlib.Omega.{arith}
-use mathlib.Core.Path.{_≡_, refl, sym, ap, ap₂, _∙_}
+use mathlib.Core.Path.{_≡_, refl, sym, ap, _∙_}
 use mathlib.Core.Bool.{false, true≢false}
 use mathlib.Core.List.{List, [], _∷_, _++_, append-assoc}
 use lib.ListN.{length, getD, length-take, length-map, List·getD-map}
@@ -16,10 +16,7 @@ use Rattle.decoder.specs.declared.Item.{Item}
 use Rattle.decoder.specs.declared.Item.the-variants.{Decoded, UnknownKind, WrongBodyLength, FieldNotAllowed}
 use Rattle.decoder.specs.Kinds.{isDecoded}
 use Rattle.effect.specs.Memory.{Global, Shared}
-use Rattle.trace.specs.declared.Entry.{Entry}
-use Rattle.trace.specs.File.{entryAt, bodyStart, firstItems}
-use Rattle.trace.specs.Beginning.{entryIn, heldItem, heldItemIn}
-use Rattle.trace.proofs.Entries.{more-lengths, whole-entry}
+use Rattle.trace.specs.File.{firstItems}
 use Rattle.trace.proofs.Faults.{length-first, further}
 use Rattle.rules.specs.Events.{eventAt}
 use Rattle.rules.specs.Faults.{Lengths, faultless}
@@ -86,13 +83,6 @@ module _ (item : ℕ → Item) where
       let here : item i ≡ Decoded (eventAt (v .events) i) =
       sym (item-here i n h) ∙ ap (λ l. getD l i (Decoded Commit)) (v .are) ∙ List·getD-map Decoded (v .events) i Commit in
       rw here (well .faultless .each i (omega arith))
-
--- ---- from one body to the next
-pub walked : (f : List ℕ) (i start : ℕ) (entry : Entry) → start ≡ bodyStart f i → entry ≡ entryIn f i → entryAt i + 4 ≤ length f
-    → (heldItem f start entry ≡ heldItemIn f i) × (start + entry .length ≡ bodyStart f (i + 1))
-walked f i start entry at is held =
-    let added = ap (λ (e : Entry). e .length) (is ∙ whole-entry f i held) in
-    (ap₂ (heldItem f) at is, omega (arith, at, added, more-lengths f i))
 
 -- ---- the record's use
 read-little : (e : Event) (m : Memories) → length (readBy e m) ≤ loadSize e

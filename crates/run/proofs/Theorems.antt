@@ -18,19 +18,23 @@ use Rattle.event.specs.declared.Event.{Event}
 use Rattle.decoder.specs.declared.Item.{Item}
 use Rattle.decoder.specs.declared.Item.the-variants.{Decoded}
 use Rattle.trace.specs.declared.Header.{Header}
-use Rattle.trace.specs.File.{Contents, refused, recorded, fileOf}
+use Rattle.trace.specs.File.{Contents, recorded, fileOf}
+use Rattle.trace.specs.Beginning.{heldOf}
+use Rattle.trace.proofs.Held.{held-whole}
 use Rattle.rules.specs.Faults.{Lengths}
 use Rattle.rules.specs.Orders.{actionsOf}
-use Rattle.rules.specs.Answers.{answerOf, lengthsIn, answerOfContents, answerOfFile}
+use Rattle.rules.specs.Answers.{answerOf, lengthsIn, answerOfFile}
 use Rattle.rules.specs.Waited.{Waited, MayAdd, Lowered}
 use Rattle.rules.specs.Waited as waited
 use Rattle.rules.specs.Theorems.{codeOf, IsAccepted}
 use Rattle.rules.proofs.Orders.{has-order}
 use Rattle.rules.proofs.Right.{Fits}
-use Rattle.rules.proofs.Files.{few-recorded, file-fits, answer-recorded, accepted-file, still-accepted-file, still-the-same-file}
+use Rattle.rules.proofs.Accepted.{accepted-items}
+use Rattle.rules.proofs.Files.{list-fits, answer-recorded, still-accepted-file, still-the-same-file}
+use Rattle.judge.proofs.Beginnings.{Says, shapeless, listed, says}
 use Rattle.moves.specs.Acting.{loadSize}
 use Rattle.run.specs.Running.{Lent, isAccepted, loadBytes, orNoRoom, areLent, answerOfRun, leaving}
-use Rattle.run.specs.Theorems.{OneRun, GivenInRuns, AsJudged, MoreWaitingInRuns}
+use Rattle.run.specs.Theorems.{OneOutcome, OneRun, GivenInRuns, AsJudged, MoreWaitingInRuns}
 use Rattle.run.proofs.Answers.{run-not-lent, run-judged, run-no-room, run-room}
 
 -- ---- what an accepted run tells of its file
@@ -68,19 +72,23 @@ module _ (header : Header) (items : List Item) (before : Lent) where
   told-accepted : IsAccepted runs → Accepted header items before
   told-accepted accepts = by-lengths (areLent header before) refl accepts
 
--- an accepted run is of an accepted file
-accepted-contents : (contents : Contents) (before : Lent) → IsAccepted (answerOfRun contents before) → IsAccepted (answerOfContents contents)
-unfolding answerOfRun
-accepted-contents (refused a) before h = h
-accepted-contents (recorded header items) before h = told-accepted header items before h .judged
-
 -- ---- one run
-pub oneRun : OneRun
-unfolding OneRun answerOfFile
-oneRun f before a a′ after after′ ran ran′ = (same, by-acceptance (isAccepted a) refl)
+one-outcome : {contents : Contents} → Says contents → OneOutcome contents
+unfolding answerOfRun
+one-outcome {contents} said before a a′ after after′ ran ran′ = (same, by-acceptance (isAccepted a) refl)
   where
     same : a ≡ a′
     same = ran .answers ∙ sym (ran′ .answers)
+
+    -- an accepted run is of events, whose one outcome both leave
+    by-said : {c : Contents} → Says c → c ≡ contents → IsAccepted a → IsAccepted (answerOfRun c before) → after ≡ after′
+    by-said (shapeless refuses fits) is accepts h = absurd (refuses h)
+    by-said (listed {header = header} {items = items} few) is accepts h =
+        let v = accepted-items (lengthsIn header) items (told-accepted header items before h .judged) in
+        let es = v .events in
+        let holds = sym is ∙ ap (recorded header) (v .are) in
+        ran .acceptance accepts header es holds (actionsOf es) (has-order es)
+        ∙ sym (ran′ .acceptance (rw (← same) accepts) header es holds (actionsOf es) (has-order es))
 
     by-acceptance : (t : Bool) → isAccepted a ≡ t → after ≡ after′
     by-acceptance false e =
@@ -88,10 +96,15 @@ oneRun f before a a′ after after′ ran ran′ = (same, by-acceptance (isAccep
         ran .refusal refuses ∙ sym (ran′ .refusal (rw (← same) refuses))
     by-acceptance true e =
         let accepts = eqb-true (codeOf a) 1 e in
-        let accepted = accepted-contents (fileOf eventLimit f) before (rw (← ran .answers) accepts) in
-        let (lengths, es, holds, well-formed, clean) = accepted-file f accepted in
-        ran .acceptance accepts _ es holds (actionsOf es) (has-order es)
-        ∙ sym (ran′ .acceptance (rw (← same) accepts) _ es holds (actionsOf es) (has-order es))
+        by-said said refl accepts (rw (← ran .answers) accepts)
+
+-- what a file says, its beginning does that is the whole file
+file-says : (f : List ℕ) → Says (fileOf eventLimit f)
+file-says f = rw (← held-whole eventLimit f) (says f (length f))
+
+pub oneRun : OneRun
+unfolding OneRun
+oneRun = (λ f total. one-outcome (says f total), λ f. one-outcome (file-says f))
 
 -- ---- the sheet
 no-room-fits : (n : ℕ) → n ≤ eventLimit → Fits (answer.NoRoom n)
@@ -102,21 +115,25 @@ memory-length-fits : Fits answer.WrongMemoryLength
 unfolding fit fitNamed
 memory-length-fits = refl
 
-pub givenInRuns : GivenInRuns
-unfolding GivenInRuns answerOfRun answerOfFile
-givenInRuns f before = fits-given (answerOfRun (fileOf eventLimit f) before) (by-contents (fileOf eventLimit f) refl (file-fits f))
+run-fits : {contents : Contents} (before : Lent) → Says contents → Fits (answerOfRun contents before)
+unfolding answerOfRun
+run-fits before (shapeless refuses fits) = fits
+run-fits before (listed {header = header} {items = items} few) = by-lengths (areLent header before)
   where
-    by-contents : (c : Contents) → fileOf eventLimit f ≡ c → Fits (answerOfContents c) → Fits (answerOfRun c before)
-    by-contents (refused a) e fits = fits
-    by-contents (recorded header items) e fits = by-lengths (areLent header before)
-      where
-        by-room : (t : Bool) → Fits (cond t (answer.NoRoom (length items)) (answerOf (lengthsIn header) items))
-        by-room true = no-room-fits (length items) (few-recorded f header items e)
-        by-room false = fits
+    by-room : (t : Bool) → Fits (cond t (answer.NoRoom (length items)) (answerOf (lengthsIn header) items))
+    by-room true = no-room-fits (length items) few
+    by-room false = list-fits (lengthsIn header) items
 
-        by-lengths : (t : Bool) → Fits (cond t (orNoRoom (length (before .loadRecord)) items (answerOf (lengthsIn header) items)) answer.WrongMemoryLength)
-        by-lengths true = by-room (isAccepted (answerOf (lengthsIn header) items) && not (leb (loadBytes items) (length (before .loadRecord))))
-        by-lengths false = memory-length-fits
+    by-lengths : (t : Bool) → Fits (cond t (orNoRoom (length (before .loadRecord)) items (answerOf (lengthsIn header) items)) answer.WrongMemoryLength)
+    by-lengths true = by-room (isAccepted (answerOf (lengthsIn header) items) && not (leb (loadBytes items) (length (before .loadRecord))))
+    by-lengths false = memory-length-fits
+
+pub givenInRuns : GivenInRuns
+unfolding GivenInRuns
+givenInRuns = (
+  λ f total before. fits-given (answerOfRun (heldOf eventLimit f total) before) (run-fits before (says f total)),
+  λ f before. fits-given (answerOfRun (fileOf eventLimit f) before) (run-fits before (file-says f)),
+)
 
 -- ---- as judged
 lent-by : (n : ℕ) (lengths : Lengths) (before : Lent) → length (before .global) ≡ lengths .global → length (before .shared) ≡ lengths .shared

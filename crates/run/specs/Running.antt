@@ -6,18 +6,16 @@ use mathlib.Core.List.{List, [], _∷_, _++_, map}
 use lib.Dec.{eqb, leb}
 use lib.ListN.{length, drop}
 use Rattle.answer.specs.declared.Answer.{Answer}
-use Rattle.answer.specs.declared.Answer.the-variants.{WrongShape, WrongMemoryLength, NoRoom}
-use Rattle.answer.specs.Table.{eventLimit}
+use Rattle.answer.specs.declared.Answer.the-variants.{WrongMemoryLength, NoRoom}
 use Rattle.event.specs.declared.Event.{Event}
 use Rattle.decoder.specs.declared.Item.{Item}
 use Rattle.decoder.specs.declared.Item.the-variants.{Decoded, UnknownKind, WrongBodyLength, FieldNotAllowed}
 use Rattle.trace.specs.declared.Header.{Header}
-use Rattle.trace.specs.File.{shapeOf, Contents, refused, recorded}
+use Rattle.trace.specs.File.{Contents, refused, recorded}
 use Rattle.rules.specs.Orders.{Action, PermittedOrder}
 use Rattle.rules.specs.Answers.{answerOf, lengthsIn}
 use Rattle.rules.specs.Outcomes.{Outcome, outcome}
 use Rattle.rules.specs.Theorems.{codeOf, IsAccepted}
-use Rattle.judge.specs.Beginnings.{heldContents}
 use Rattle.moves.specs.Acting.{loadSize}
 
 -- ---- What is lent.
@@ -82,7 +80,7 @@ leaving o loadRecord = lent (o .global) (o .shared) (appended (o .loads) loadRec
 abbrev pub leaves : List Event → List Action → Lent → Lent
 leaves es order before = leaving (outcome es (before .global) (before .shared) order) (before .loadRecord)
 
--- A run of a file with these contents: its answer, and what the lent things hold afterwards.
+-- A run of a file that says this, or whose beginning does: its answer, and what the lent things hold afterwards.
 pub record Ran (contents : Contents) (before : Lent) (answer : Answer) (after : Lent) : Type 0 where
   pub answers : answer ≡ answerOfRun contents before
   -- A refusal writes nothing.
@@ -90,9 +88,3 @@ pub record Ran (contents : Contents) (before : Lent) (answer : Answer) (after : 
   -- An accepted file leaves what every permitted order of its events gives.
   pub acceptance : IsAccepted answer → (header : Header) (es : List Event) → contents ≡ recorded header (map Decoded es)
       → (order : List Action) → PermittedOrder es order → after ≡ leaves es order before
-
--- ---- A beginning.
-
--- What the beginning f of a file of `total` bytes says of it. No file of so many bytes has more first bytes.
-unfoldable pub heldOf : List ℕ → ℕ → Contents
-heldOf f total = cond (leb (length f) total) (heldContents f (shapeOf eventLimit f total)) (refused WrongShape)

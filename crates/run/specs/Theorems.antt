@@ -10,7 +10,8 @@ use Rattle.answer.specs.Theorems.{Given}
 use Rattle.event.specs.declared.Event.{Event}
 use Rattle.decoder.specs.declared.Item.{Item}
 use Rattle.decoder.specs.declared.Item.the-variants.{Decoded}
-use Rattle.trace.specs.File.{fileOf}
+use Rattle.trace.specs.File.{Contents, fileOf}
+use Rattle.trace.specs.Beginning.{heldOf}
 use Rattle.rules.specs.Faults.{Lengths}
 use Rattle.rules.specs.Answers.{answerOfFile}
 use Rattle.rules.specs.Waited.{Waited}
@@ -21,15 +22,22 @@ use Rattle.run.specs.Running.{Lent, loadBytes, answerOfRun, Ran}
 abbrev pub RanFile : List ℕ → Lent → Answer → Lent → Type 0
 RanFile f before answer after = Ran (fileOf eventLimit f) before answer after
 
--- One answer and one outcome meet the promise of a run.
+-- With these contents one answer and one outcome meet the promise of a run.
+abbrev pub OneOutcome : Contents → Type 0
+OneOutcome contents =
+    (before : Lent) (a a′ : Answer) (after after′ : Lent)
+    → Ran contents before a after → Ran contents before a′ after′ → (a ≡ a′) × (after ≡ after′)
+
+-- So it is whatever bytes and length are handed over for a beginning and its file's, and with those of a file.
 unfoldable pub OneRun : Type 0
 OneRun =
-    (f : List ℕ) (before : Lent) (a a′ : Answer) (after after′ : Lent)
-    → RanFile f before a after → RanFile f before a′ after′ → (a ≡ a′) × (after ≡ after′)
+    ((f : List ℕ) (total : ℕ) → OneOutcome (heldOf eventLimit f total)) × ((f : List ℕ) → OneOutcome (fileOf eventLimit f))
 
--- The answer is one that the sheet's reader gives.
+-- The answer of either is one that the sheet's reader gives.
 unfoldable pub GivenInRuns : Type 0
-GivenInRuns = (f : List ℕ) (before : Lent) → Given (answerOfRun (fileOf eventLimit f) before)
+GivenInRuns =
+    ((f : List ℕ) (total : ℕ) (before : Lent) → Given (answerOfRun (heldOf eventLimit f total) before))
+    × ((f : List ℕ) (before : Lent) → Given (answerOfRun (fileOf eventLimit f) before))
 
 -- Over memories of the file's lengths a run answers as the judge does, wherever the loads fit or the judge refuses.
 unfoldable pub AsJudged : Type 0

@@ -5,12 +5,13 @@ use answer::Answer;
 use trace::Shape;
 ghost use mathlib.Core.Path.{_≡_};
 ghost use mathlib.Core.List.{List};
-ghost use Prim.Native.Nat.{ℕ, _+_, _*_, _≤_};
+ghost use Prim.Native.Nat.{ℕ, _≤_};
 ghost use lib.ListN.{length, take};
 ghost use Rattle.answer.specs.Table.{eventLimit};
 ghost use Rattle.trace.specs.declared.Shape.the-variants.{Formed};
 ghost use Rattle.trace.specs.File.{shapeOf, fileOf};
-ghost use Rattle.run.specs.Running.{lent, heldOf, Ran};
+ghost use Rattle.trace.specs.Beginning.{enough, heldOf};
+ghost use Rattle.run.specs.Running.{lent, Ran};
 
 // Runs a file. The answer is its own, with 4 also where a length is not the lent memory's, and 11 where the loads do not
 // fit the record. A refusal changes nothing that is lent.
@@ -20,8 +21,7 @@ pub fn run(file: &[u8], global: &mut [u8], shared: &mut [u8], loads: &mut [u8]) 
     run_beginning(file, file.len(), global, shared, loads)
 }
 
-// The same of a file of `total` bytes, by its first bytes: `trace::ENOUGH` of them are enough. No file has more first
-// bytes than bytes.
+// The same of a file of `total` bytes, by its first bytes: `trace::ENOUGH` of them are enough.
 pub fn run_beginning(
     beginning: &[u8],
     total: usize,
@@ -29,12 +29,9 @@ pub fn run_beginning(
     shared: &mut [u8],
     loads: &mut [u8],
 ) -> Answer
-    ensures { λ r. ⌜ ((file : List ℕ) (held : ℕ) → 12 + 28 * eventLimit ≤ held → now (beginning .entry) ≡ take held file → total ≡ length file → Ran (fileOf eventLimit file) (lent (now (global .entry)) (now (shared .entry)) (now (loads .entry))) r (lent (now (global .exit)) (now (shared .exit)) (now (loads .exit)))) ⌝ }
-    ensures { λ r. ⌜ Ran (heldOf (now (beginning .entry)) total) (lent (now (global .entry)) (now (shared .entry)) (now (loads .entry))) r (lent (now (global .exit)) (now (shared .exit)) (now (loads .exit))) ⌝ }
+    ensures { λ r. ⌜ ((file : List ℕ) (held : ℕ) → enough eventLimit ≤ held → now (beginning .entry) ≡ take held file → total ≡ length file → Ran (fileOf eventLimit file) (lent (now (global .entry)) (now (shared .entry)) (now (loads .entry))) r (lent (now (global .exit)) (now (shared .exit)) (now (loads .exit)))) ⌝ }
+    ensures { λ r. ⌜ Ran (heldOf eventLimit (now (beginning .entry)) total) (lent (now (global .entry)) (now (shared .entry)) (now (loads .entry))) r (lent (now (global .exit)) (now (shared .exit)) (now (loads .exit))) ⌝ }
 {
-    if total < beginning.len() {
-        return Answer::WrongShape;
-    }
     match trace::shape_of(beginning, total) {
         Shape::Refused(answer) => answer,
         Shape::Formed(header) => {
@@ -57,9 +54,8 @@ fn run_lent(
     shared: &mut [u8],
     loads: &mut [u8],
 ) -> Answer
-    requires { ⌜ length (now beginning) ≤ total ⌝ }
     requires { ⌜ shapeOf eventLimit (now beginning) total ≡ Formed (record { events = events; global = length (now global); shared = length (now shared) }) ⌝ }
-    ensures { λ r. ⌜ Ran (heldOf (now (beginning .entry)) total) (lent (now (global .entry)) (now (shared .entry)) (now (loads .entry))) r (lent (now (global .exit)) (now (shared .exit)) (now (loads .exit))) ⌝ }
+    ensures { λ r. ⌜ Ran (heldOf eventLimit (now (beginning .entry)) total) (lent (now (global .entry)) (now (shared .entry)) (now (loads .entry))) r (lent (now (global .exit)) (now (shared .exit)) (now (loads .exit))) ⌝ }
 {
     let answer = judge::judge_beginning(beginning, total);
     let Answer::Accepted { .. } = answer else {

@@ -1,7 +1,7 @@
 -- What the beginning of a file tells of the file.
 -- Assumes nothing.
 use Prim.Native.Nat.{ℕ, zero, suc, _+_, _*_, _-_, _≤_, _<_}
-use mathlib.Core.Path.{_≡_, refl, sym, ap, _∙_}
+use mathlib.Core.Path.{_≡_, refl, sym, ap, ap₂, _∙_}
 use mathlib.Core.Bool.{Bool, true, false, _&&_, cond, true≢false}
 use mathlib.Core.List.{List, [], _∷_, _++_}
 use native.Mathlib.Omega.{arith}
@@ -19,10 +19,11 @@ use Rattle.trace.specs.declared.Header.{Header}
 use Rattle.trace.specs.declared.Shape.{Shape}
 use Rattle.trace.specs.declared.Shape.the-variants.{Formed, Refused}
 use Rattle.decoder.specs.Kinds.{inRanges, isDecoded, overlong}
-use Rattle.trace.specs.File.{eventsIn, headerIn, reservedZero, entryAt, kindIn, bodyLengthIn, entriesZero, bodyLengths, bodyStart, bodyIn, isShape, isMemoryLength, first, shapeOf, firstItems, itemIn, contentsOf, fileOf}
-use Rattle.trace.specs.Beginning.{heldItem, heldItemIn, orFault, checkedItems, checkOf, checkedFile}
+use Rattle.trace.specs.File.{eventsIn, headerIn, reservedZero, entryAt, kindIn, bodyLengthIn, entriesZero, bodyLengths, bodyStart, bodyIn, isShape, isMemoryLength, first, shapeOf, firstItems, itemIn, recorded, contentsOf, fileOf}
+use Rattle.trace.specs.Beginning.{enough, heldItem, heldItemIn, heldContents, heldOf, checkedFile, checkOf}
 use Rattle.trace.proofs.Entries.{more-lengths, whole-entry}
-use Rattle.trace.proofs.Faults.{allDecoded, all-append, goes-on, stops, length-first}
+use Rattle.trace.proofs.Faults.{allDecoded, all-append}
+use Rattle.trace.proofs.Alike.{same-fault}
 use Rattle.decoder.proofs.Rows.{long-body}
 use Rattle.trace.proofs.Shapes.{formed, table-held}
 
@@ -44,16 +45,31 @@ inside f i h few =
     let more = more-lengths f i in
     omega arith
 
--- A file that is held whole has its own items.
-pub held-whole : (limit : ℕ) (f : List ℕ) (h : Header) (i : ℕ) → shapeOf limit f (length f) ≡ Formed h → i < h .events
+-- A file that is held whole has its own items ..
+whole-item : (limit : ℕ) (f : List ℕ) (h : Header) (i : ℕ) → shapeOf limit f (length f) ≡ Formed h → i < h .events
     → heldItemIn f i ≡ itemIn f i
 unfolding heldItem
-held-whole limit f h i e few =
+whole-item limit f h i e few =
     let p = formed limit (length f) f h e in
     let same = ap (λ (g : Header). g .events) (p .0) in
     let table = table-held f (length f) (p .2) in
     let within = inside f i (p .2) (omega arith) in
     rw (whole-entry f i (omega arith), le-leb (bodyStart f i + bodyLengthIn f i) (length f) within)
+
+same-items : (a b : ℕ → Item) (n : ℕ) → ((i : ℕ) → i < n → b i ≡ a i) → firstItems b n ≡ firstItems a n
+unfolding firstItems
+same-items a b zero same = refl
+same-items a b (suc n) same = ap₂ (λ l x. l ++ x ∷ []) (same-items a b n (λ i l. same i (omega arith))) (same n (omega arith))
+
+-- .. and so says what the file says.
+pub held-whole : (limit : ℕ) (f : List ℕ) → heldOf limit f (length f) ≡ fileOf limit f
+unfolding heldOf fileOf
+held-whole limit f = by-shape (shapeOf limit f (length f)) refl
+  where
+    by-shape : (s : Shape) → shapeOf limit f (length f) ≡ s → heldContents f s ≡ contentsOf f s
+    by-shape (Refused answer) e = refl
+    by-shape (Formed h) e =
+        ap (recorded h) (same-items (itemIn f) (heldItemIn f) (h .events) (λ i few. whole-item limit f h i e few))
 
 -- A beginning of k bytes has the file's bytes up to there.
 module _ (k : ℕ) (f : List ℕ) where
@@ -96,8 +112,8 @@ part-there (suc s) n zero f h = absurd (omega arith)
 part-there (suc s) n (suc k) [] h = refl
 part-there (suc s) n (suc k) (b ∷ f) h = part-there s n k f (omega arith)
 
--- The first bytes decide on the shape.
-pub shape-decided : (limit k : ℕ) (f : List ℕ) → 12 + 28 * limit ≤ k
+-- Enough first bytes decide on the shape ..
+pub shape-decided : (limit k : ℕ) (f : List ℕ) → enough limit ≤ k
     → shapeOf limit (take k f) (length f) ≡ shapeOf limit f (length f)
 unfolding shapeOf
 shape-decided limit k f h =
@@ -106,12 +122,14 @@ shape-decided limit k f h =
       number-there k f 4 4 (omega arith),
       number-there k f 4 8 (omega arith),
       reaches k f 12 (omega arith),
+      le-leb (length (take k f)) (length f) (omega (arith, length-take k f)),
+      le-leb (length f) (length f) (omega arith),
     )
     (go (leb (eventsIn f) limit) refl)
   where
     checks : Bool → Bool → Shape
     checks few shape =
-        first (leb 12 (length f) && leb 12 (length f)) WrongShape
+        first (leb 12 (length f) && true) WrongShape
         (first few TooManyEvents
         (first shape WrongShape
         (first (isMemoryLength (headerIn f .global) && isMemoryLength (headerIn f .shared)) WrongMemoryLength (Formed (headerIn f)))))
@@ -120,36 +138,6 @@ shape-decided limit k f h =
         → checks (leb (eventsIn f) limit) (isShape (take k f) (length f)) ≡ checks (leb (eventsIn f) limit) (isShape f (length f))
     go true e = ap (checks (leb (eventsIn f) limit)) (shape-there k f (length f) (omega (arith, leb-true (eventsIn f) limit e)))
     go false e = rw e
-
--- Lists of items that agree up to the first that does not decode have the same first fault.
-module _ (a b : ℕ → Item) where
-  agree : (n : ℕ) → ((i : ℕ) → i < n → allDecoded (firstItems a i) ≡ true → b i ≡ a i)
-      → (allDecoded (firstItems b n) ≡ allDecoded (firstItems a n))
-      × ((s : Shape) → orFault 0 (firstItems b n) s ≡ orFault 0 (firstItems a n) s)
-  unfolding firstItems
-  agree zero alike = (refl, λ s. refl)
-  agree (suc n) alike = go (allDecoded (firstItems a n)) refl (agree n (λ i h. alike i (omega arith)))
-    where
-      go : (t : Bool) → allDecoded (firstItems a n) ≡ t
-          → (allDecoded (firstItems b n) ≡ allDecoded (firstItems a n)) × ((s : Shape) → orFault 0 (firstItems b n) s ≡ orFault 0 (firstItems a n) s)
-          → (allDecoded (firstItems b n ++ b n ∷ []) ≡ allDecoded (firstItems a n ++ a n ∷ []))
-          × ((s : Shape) → orFault 0 (firstItems b n ++ b n ∷ []) s ≡ orFault 0 (firstItems a n ++ a n ∷ []) s)
-      go true e (all, same) =
-          let here = alike n (omega arith) e in (
-            rw (all-append (firstItems b n) (b n ∷ []), all-append (firstItems a n) (a n ∷ []), all, here),
-            λ s.
-                rw (
-                  goes-on 0 (firstItems b n) (b n ∷ []) s (all ∙ e),
-                  goes-on 0 (firstItems a n) (a n ∷ []) s e,
-                  length-first b n,
-                  length-first a n,
-                  here,
-                ),
-          )
-      go false e (all, same) = (
-        rw (all-append (firstItems b n) (b n ∷ []), all-append (firstItems a n) (a n ∷ []), all, e),
-        λ s. stops 0 (firstItems b n) (b n ∷ []) s (all ∙ e) ∙ same s ∙ sym (stops 0 (firstItems a n) (a n ∷ []) s e),
-      )
 
 -- A body that lies inside its file is as long as its entry says.
 length-body : (f : List ℕ) (i : ℕ) → bodyStart f i + bodyLengthIn f i ≤ length f → length (bodyIn f i) ≡ bodyLengthIn f i
@@ -188,7 +176,7 @@ short-bodies f (suc i) shape few decoded =
     omega arith
 
 -- What is not reached by then is longer than any body.
-module _ (limit k : ℕ) (f : List ℕ) (i : ℕ) (enough : 12 + 28 * limit ≤ k) (most : eventsIn f ≤ limit) (few : i < eventsIn f)
+module _ (limit k : ℕ) (f : List ℕ) (i : ℕ) (long : enough limit ≤ k) (most : eventsIn f ≤ limit) (few : i < eventsIn f)
     (within : bodyStart f i + bodyLengthIn f i ≤ length f) (short : bodyLengths f i ≤ 24 * i) where
   reached : (t : Bool) → leb (bodyStart f i + bodyLengthIn f i) k ≡ t
       → heldItem (take k f) (bodyStart f i) (record { kind = kindIn f i; length = bodyLengthIn f i }) ≡ itemIn f i
@@ -201,16 +189,16 @@ module _ (limit k : ℕ) (f : List ℕ) (i : ℕ) (enough : 12 + 28 * limit ≤ 
       )
   reached false t =
       let past = leb-false (bodyStart f i + bodyLengthIn f i) k t in
-      let long : 24 < bodyLengthIn f i = omega arith in
+      let over : 24 < bodyLengthIn f i = omega arith in
       rw (lt-leb (bodyStart f i + bodyLengthIn f i) (length (take k f)) (omega (arith, length-take k f)))
-      (sym (long-body (kindIn f i) (bodyIn f i) (rw (length-body f i within) long)))
+      (sym (long-body (kindIn f i) (bodyIn f i) (rw (length-body f i within) over)))
 
 -- Up to the first item that does not decode, the beginning has the file's items.
-pub item-there : (limit k : ℕ) (f : List ℕ) (h : Header) (i : ℕ) → 12 + 28 * limit ≤ k → shapeOf limit f (length f) ≡ Formed h
+pub item-there : (limit k : ℕ) (f : List ℕ) (h : Header) (i : ℕ) → enough limit ≤ k → shapeOf limit f (length f) ≡ Formed h
     → i < h .events
     → allDecoded (firstItems (itemIn f) i) ≡ true
     → heldItemIn (take k f) i ≡ itemIn f i
-item-there limit k f h i enough e few decoded =
+item-there limit k f h i long e few decoded =
     let p = formed limit (length f) f h e in
     let same = ap (λ (g : Header). g .events) (p .0) in
     let most = p .1 in
@@ -224,14 +212,15 @@ item-there limit k f h i enough e few decoded =
       lengths-there k f i (omega arith),
       getD-take k f (entryAt i) 0 (omega arith),
     )
-    (reached limit k f i enough most (omega arith) within short (leb (bodyStart f i + bodyLengthIn f i) k) refl)
+    (reached limit k f i long most (omega arith) within short (leb (bodyStart f i + bodyLengthIn f i) k) refl)
 
-pub check-decided : (limit k : ℕ) (f : List ℕ) → 12 + 28 * limit ≤ k
+-- .. and on the first fault.
+pub check-decided : (limit k : ℕ) (f : List ℕ) → enough limit ≤ k
     → checkOf limit (take k f) (length f) ≡ checkedFile (fileOf limit f)
-unfolding checkOf fileOf
-check-decided limit k f enough = rw (shape-decided limit k f enough) (go (shapeOf limit f (length f)) refl)
+unfolding checkOf heldOf fileOf
+check-decided limit k f long = rw (shape-decided limit k f long) (go (shapeOf limit f (length f)) refl)
   where
-    go : (s : Shape) → shapeOf limit f (length f) ≡ s → checkedItems (take k f) s ≡ checkedFile (contentsOf f s)
+    go : (s : Shape) → shapeOf limit f (length f) ≡ s → checkedFile (heldContents (take k f) s) ≡ checkedFile (contentsOf f s)
     go (Refused answer) e = refl
     go (Formed h) e =
-        agree (itemIn f) (heldItemIn (take k f)) (h .events) (λ i few decoded. item-there limit k f h i enough e few decoded) .1 (Formed h)
+        same-fault (itemIn f) (heldItemIn (take k f)) (h .events) (Formed h) (λ i few decoded. item-there limit k f h i long e few decoded)

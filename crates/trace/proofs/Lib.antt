@@ -2,5 +2,6 @@
 pub mod Entries
 pub mod Shapes
 pub mod Faults
+pub mod Alike
 pub mod Held
 pub mod Theorems

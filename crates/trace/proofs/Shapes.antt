@@ -30,30 +30,30 @@ header-of : (h g : Header) → Formed h ≡ Formed g → h ≡ g
 header-of h g e = cc
 
 module _ (limit total : ℕ) (f : List ℕ) where
-  pub too-short : (leb 12 total && leb 12 (length f)) ≡ false → shapeOf limit f total ≡ Refused WrongShape
+  pub not-headed : (leb 12 (length f) && leb (length f) total) ≡ false → shapeOf limit f total ≡ Refused WrongShape
   unfolding shapeOf
-  too-short short = rw short
+  not-headed h = rw h
 
-  pub too-many : 12 ≤ total → 12 ≤ length f → limit < eventsIn f → shapeOf limit f total ≡ Refused TooManyEvents
+  pub too-many : 12 ≤ length f → length f ≤ total → limit < eventsIn f → shapeOf limit f total ≡ Refused TooManyEvents
   unfolding shapeOf
-  too-many long held many = rw (le-leb 12 total long, le-leb 12 (length f) held, lt-leb (eventsIn f) limit many)
+  too-many held within many = rw (le-leb 12 (length f) held, le-leb (length f) total within, lt-leb (eventsIn f) limit many)
 
   -- With the events within the limit, the shape is told by two tests.
-  pub by-tests : (h : Header) (shape memories : Bool) → 12 ≤ total → 12 ≤ length f → h ≡ headerIn f → h .events ≤ limit
+  pub by-tests : (h : Header) (shape memories : Bool) → 12 ≤ length f → length f ≤ total → h ≡ headerIn f → h .events ≤ limit
       → shape ≡ isShape f total
       → (isMemoryLength (h .global) && isMemoryLength (h .shared)) ≡ memories
       → first shape WrongShape (first memories WrongMemoryLength (Formed h)) ≡ shapeOf limit f total
   unfolding shapeOf
-  by-tests h shape memories long held header few s m =
+  by-tests h shape memories held within header few s m =
       let few′ : eventsIn f ≤ limit = rw header at few in
-      rw (le-leb 12 total long, le-leb 12 (length f) held, le-leb (eventsIn f) limit few′, s, ← m, header)
+      rw (le-leb 12 (length f) held, le-leb (length f) total within, le-leb (eventsIn f) limit few′, s, ← m, header)
 
   -- A file that is formed has passed every check.
   pub formed : (h : Header) → shapeOf limit f total ≡ Formed h
       → (h ≡ headerIn f) × (eventsIn f ≤ limit) × (isShape f total ≡ true)
   unfolding shapeOf
   formed h e =
-      let headed = passed (leb 12 total && leb 12 (length f)) WrongShape _ h e in
+      let headed = passed (leb 12 (length f) && leb (length f) total) WrongShape _ h e in
       let few = passed (leb (eventsIn f) limit) TooManyEvents _ h (headed .1) in
       let shaped = passed (isShape f total) WrongShape _ h (few .1) in
       let memories = passed (isMemoryLength (headerIn f .global) && isMemoryLength (headerIn f .shared)) WrongMemoryLength _ h (shaped .1) in

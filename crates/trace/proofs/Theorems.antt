@@ -15,7 +15,7 @@ heldWhole = held-whole
 
 pub beginningDecides : BeginningDecides
 unfolding BeginningDecides
-beginningDecides limit file k enough = (shape-decided limit k file enough, check-decided limit k file enough)
+beginningDecides limit file k long = (shape-decided limit k file long, check-decided limit k file long)
 
 pub documentFile : DocumentFile
 unfolding DocumentFile fileOf shapeOf isShape bodyLengths entriesZero firstItems numberAt decodeOf ofLength checked modeOf allowed

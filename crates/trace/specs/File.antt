@@ -67,10 +67,11 @@ isMemoryLength n = leb n 65536
 abbrev pub first : Bool → Answer → Shape → Shape
 first passed answer later = cond passed later (Refused answer)
 
--- Under 12 bytes (2), then n over the limit (3), then other shape faults (2), then a memory length (4).
+-- Under 12 bytes, or more first bytes than the file has bytes (2), then n over the limit (3), then other shape faults (2), then a
+-- memory length (4).
 unfoldable pub shapeOf : ℕ → List ℕ → ℕ → Shape
 shapeOf limit f total =
-    first (leb 12 total && leb 12 (length f)) WrongShape
+    first (leb 12 (length f) && leb (length f) total) WrongShape
     (first (leb (eventsIn f) limit) TooManyEvents
     (first (isShape f total) WrongShape
     (first (isMemoryLength (headerIn f .global) && isMemoryLength (headerIn f .shared)) WrongMemoryLength

@@ -16,8 +16,8 @@ ghost use Rattle.trace.specs.declared.Shape.the-variants.{Formed};
 ghost use Rattle.trace.specs.File.{eventsIn, entryAt, firstItems};
 ghost use Rattle.trace.specs.Beginning.{entryIn, heldItem, heldItemIn, orFault, checkOf};
 
-// So many first bytes of a file decide, with its length, on `check`: the header, and for each event its entry and the
-// longest body.
+// So many first bytes of a file, with its length, decide on `check` and on the answers of a judge and of a run: the header,
+// and for each event its entry and the longest body.
 pub const ENOUGH: usize = 12 + 28 * (EVENT_LIMIT as usize);
 
 // The header of a file all of whose events decode, or the first of 2 to 7 that the file gets.

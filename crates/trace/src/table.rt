@@ -17,11 +17,11 @@ pub(crate) const ENTRY_LENGTH: usize = 4;
 
 pub const MEMORY_LIMIT: u32 = 65536;
 
-// The header of a file of the shape that document 01 asks for, or its refusal.
+// The header of a file of the shape that document 01 asks for, or its refusal. No file has more first bytes than bytes.
 pub fn shape_of(beginning: &[u8], total: usize) -> Shape
     ensures { λ r. ⌜ r ≡ shapeOf eventLimit (now (beginning .entry)) total ⌝ }
 {
-    if (HEADER_LENGTH <= total) & (HEADER_LENGTH <= beginning.len()) {
+    if (HEADER_LENGTH <= beginning.len()) & (beginning.len() <= total) {
         headed(beginning, total)
     } else {
         Shape::Refused(Answer::WrongShape)
@@ -30,7 +30,7 @@ pub fn shape_of(beginning: &[u8], total: usize) -> Shape
 
 // The same of a beginning that holds the header.
 fn headed(beginning: &[u8], total: usize) -> Shape
-    requires { ⌜ (12 ≤ total) × (12 ≤ length (now beginning)) ⌝ }
+    requires { ⌜ (12 ≤ length (now beginning)) × (length (now beginning) ≤ total) ⌝ }
     ensures { λ r. ⌜ r ≡ shapeOf eventLimit (now (beginning .entry)) total ⌝ }
 {
     let header = header_in(beginning);

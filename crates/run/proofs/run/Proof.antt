@@ -1,12 +1,8 @@
 -- `run` meets its contract: the whole file is a beginning of itself.
 -- Assumes nothing.
-use Prim.Native.Nat.{_+_, _*_}
-use native.Mathlib.Omega.{arith}
-use mathlib.Core.Path.{refl}
 use denote.Ref.{now}
-use lib.ListN.{length}
 use Rattle.answer.specs.Table.{eventLimit}
-use Rattle.run.proofs.Answers.{whole}
+use Rattle.trace.proofs.Held.{held-whole}
 use borrow.Author.Needs.{needs}
 use Rattle.run.proofs.run.Statement.{statement}
 use Rattle.run.proofs.run.Tie as tie
@@ -26,7 +22,7 @@ same-length-3 c = search needs
 returns : tie.Need-returns
 returns c =
     let f = now (c .before .before .before .before .before .before .before .before .before .before .before .before .before .before .args .file) in
-    c .before .before .before .before .before .before .run-beginning .ensures .0 f (length f + (12 + 28 * eventLimit)) (omega arith) (whole f) refl
+    rw (← held-whole eventLimit f) (c .before .before .before .before .before .before .run-beginning .ensures .1)
 
 pub run-spec : {M : Type 1} → statement M
 run-spec =

@@ -22,10 +22,10 @@ returns c =
     let start = c .before .before .before .before .before .before in
     let a = start .args in
     let judged = c .before .judge-beginning in
-    lent-refused (now (a .beginning)) (a .total) (lent (now (a .global)) (now (a .shared)) (now (a .loads))) (start .pre .0) _ (start .pre .1) (lent-lengths (a .events) (lent (now (a .global)) (now (a .shared)) (now (a .loads)))) (judged .result) (judged .ensures .1) (no-acceptance (judged .result) (c .match .keys2))
+    lent-refused (now (a .beginning)) (a .total) (lent (now (a .global)) (now (a .shared)) (now (a .loads))) _ (start .pre) (lent-lengths (a .events) (lent (now (a .global)) (now (a .shared)) (now (a .loads)))) (judged .result) (judged .ensures .1) (no-acceptance (judged .result) (c .match .keys2))
 
 load-bytes-requires : tie.Need-load-bytes-requires
-load-bytes-requires c κs = let start = c .before .before .before .before .before .before .before in counted eventLimit (start .args .total) (now (start .args .beginning)) _ (start .pre .1)
+load-bytes-requires c κs = let start = c .before .before .before .before .before .before .before in counted eventLimit (start .args .total) (now (start .args .beginning)) _ (start .pre)
 
 returns-2 : tie.Need-returns-2
 returns-2 c =
@@ -34,7 +34,7 @@ returns-2 c =
     let judged = c .before .before .before .before .judge-beginning in
     let accepts = ap codeOf (c .before .before .enum-told .given .1) in
     let over = rw (c .before .load-bytes .ensures) at (c .if1 .taken) in
-    lent-no-room (now (a .beginning)) (a .total) (lent (now (a .global)) (now (a .shared)) (now (a .loads))) (start .pre .0) _ (start .pre .1) (lent-lengths (a .events) (lent (now (a .global)) (now (a .shared)) (now (a .loads)))) (judged .result) (judged .ensures .1) accepts over
+    lent-no-room (now (a .beginning)) (a .total) (lent (now (a .global)) (now (a .shared)) (now (a .loads))) _ (start .pre) (lent-lengths (a .events) (lent (now (a .global)) (now (a .shared)) (now (a .loads)))) (judged .result) (judged .ensures .1) accepts over
 
 act-all-requires : tie.Need-act-all-requires
 act-all-requires c κs =
@@ -43,8 +43,8 @@ act-all-requires c κs =
     let judged = c .before .before .before .before .before .before .before .judge-beginning in
     let accepts = ap codeOf (c .before .before .before .before .before .enum-told .given .1) in
     let fits = rw (c .before .before .before .before .load-bytes .ensures) at (c .before .before .before .if1 .left) in (
-      counted eventLimit (a .total) (now (a .beginning)) _ (start .pre .1),
-      (judged-accepts (now (a .beginning)) (a .total) (lent (now (a .global)) (now (a .shared)) (now (a .loads))) (start .pre .0) _ (start .pre .1) (lent-lengths (a .events) (lent (now (a .global)) (now (a .shared)) (now (a .loads)))) (judged .result) (judged .ensures .1) accepts, fits),
+      counted eventLimit (a .total) (now (a .beginning)) _ (start .pre),
+      (judged-accepts (now (a .beginning)) (a .total) (lent (now (a .global)) (now (a .shared)) (now (a .loads))) _ (start .pre) (lent-lengths (a .events) (lent (now (a .global)) (now (a .shared)) (now (a .loads)))) (judged .result) (judged .ensures .1) accepts, fits),
     )
 
 same-length : tie.Need-same-length
@@ -63,7 +63,7 @@ returns-3 c =
     let judged = c .before .before .before .before .before .before .before .before .before .before .before .before .before .before .judge-beginning in
     let accepts = ap codeOf (c .before .before .before .before .before .before .before .before .before .before .before .before .enum-told .given .1) in
     let fits = rw (c .before .before .before .before .before .before .before .before .before .before .before .load-bytes .ensures) at (c .before .before .before .before .before .before .before .before .before .before .if1 .left) in
-    lent-run (now (a .beginning)) (a .total) (lent (now (a .global)) (now (a .shared)) (now (a .loads))) (start .pre .0) _ (start .pre .1) (lent-lengths (a .events) (lent (now (a .global)) (now (a .shared)) (now (a .loads)))) (judged .result) (judged .ensures .1) accepts fits _ (c .before .before .before .before .before .before .act-all .ensures)
+    lent-run (now (a .beginning)) (a .total) (lent (now (a .global)) (now (a .shared)) (now (a .loads))) _ (start .pre) (lent-lengths (a .events) (lent (now (a .global)) (now (a .shared)) (now (a .loads)))) (judged .result) (judged .ensures .1) accepts fits _ (c .before .before .before .before .before .before .act-all .ensures)
 
 pub run-lent-spec : {M : Type 1} → statement M
 run-lent-spec =

@@ -8,9 +8,6 @@ use Rattle.judge.proofs.Telling.{opened-so, opening-promised}
 use borrow.Author.Needs.{needs}
 use Rattle.judge.proofs.State.opening.Statement.{statement}
 use Rattle.judge.proofs.State.opening.Tie as tie
-use Rattle.judge.proofs.State.opening.Reads as reads
-use Rattle.judge.proofs.State.opening.Lts as lts
-use Rattle.judge.proofs.State.ended.Reads as ended-reads
 
 ended-requires : tie.Need-ended-requires
 ended-requires c κs = search needs

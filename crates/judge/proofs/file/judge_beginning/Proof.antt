@@ -5,15 +5,10 @@ use mathlib.Core.Path.{sym, _∙_}
 use denote.Ref.{now}
 use Rattle.answer.specs.Table.{eventLimit}
 use Rattle.trace.proofs.Shapes.{counted}
-use Rattle.judge.proofs.Beginnings.{told-long, told-refused, told-formed, told}
+use Rattle.judge.proofs.Beginnings.{told-shape, told}
 use borrow.Author.Needs.{needs}
 use Rattle.judge.proofs.file.judge_beginning.Statement.{statement}
 use Rattle.judge.proofs.file.judge_beginning.Tie as tie
-
-returns : tie.Need-returns
-returns c =
-    let a = c .before .before .args in
-    told (now (a .beginning)) (a .total) _ (sym (told-long (now (a .beginning)) (a .total) (c .if1 .taken)))
 
 shape-of-requires : tie.Need-shape-of-requires
 shape-of-requires c κs = search needs
@@ -36,31 +31,28 @@ judge-items-requires c κs =
     let known = counted eventLimit _ _ (formed .0 .0) (sym (c .before .before .before .before .before .shape-of .ensures) ∙ formed .1) in
     (known .0, (known .1, (known .2, (omega arith, omega arith))))
 
+returns : tie.Need-returns
+returns c =
+    let a = c .before .before .before .before .before .args in
+    let shape = sym (c .before .before .before .shape-of .ensures) ∙ c .before .answer .given .1 in
+    told (now (a .beginning)) (a .total) _ (sym (told-shape (now (a .beginning)) (a .total) _ shape))
+
 returns-2 : tie.Need-returns-2
 returns-2 c =
-    let a = c .before .before .before .before .before .before .args in
-    let refused = c .before .answer .given in
+    let a = c .before .before .before .before .before .before .before .before .before .before .args in
+    let shape = sym (c .before .before .before .before .before .before .before .before .shape-of .ensures) ∙ c .before .before .before .before .before .before .header .given .1 in
     told (now (a .beginning)) (a .total) _
-    (sym (told-refused (now (a .beginning)) (a .total) (c .before .before .before .before .if1 .left) _ (sym (c .before .before .before .shape-of .ensures) ∙ refused .1)))
-
-returns-3 : tie.Need-returns-3
-returns-3 c =
-    let a = c .before .before .before .before .before .before .before .before .before .before .before .args in
-    let formed = c .before .before .before .before .before .before .header .given in
-    told (now (a .beginning)) (a .total) _
-    (c .before .before .judge-items .ensures
-    ∙ sym (told-formed (now (a .beginning)) (a .total) (c .before .before .before .before .before .before .before .before .before .if1 .left) _ (sym (c .before .before .before .before .before .before .before .before .shape-of .ensures) ∙ formed .1)))
+    (c .before .before .judge-items .ensures ∙ sym (told-shape (now (a .beginning)) (a .total) _ shape))
 
 pub judge-beginning-spec : {M : Type 1} → statement M
 judge-beginning-spec =
     tie.close
     (tie.spec
-    returns
     shape-of-requires
     enum-known-answer
     enum-known-header
     slice-aggregate-judge-items
     slice-aggregate-judge-items-2
     judge-items-requires
-    returns-2
-    returns-3)
+    returns
+    returns-2)

@@ -1,28 +1,20 @@
 -- `file::judge_items` meets its contract: after each turn the state and the places are as the judge leaves them for the items
 -- so far.
 -- Assumes nothing.
-use Prim.Native.Nat.{ℕ, _+_, _*_, _-_, _≤_}
+use Prim.Native.Nat.{_+_, _*_, _-_, _≤_}
 use native.Mathlib.Omega.{arith}
-use native.Mathlib.Numerals.{add-one}
 use mathlib.Core.Path.{_≡_, refl, sym, ap, _∙_}
 use mathlib.Core.List.{[], _∷_, _++_}
 use denote.Ref.{now}
 use lib.ListN.{length}
 use borrow.Author.Needs.{needs}
-use Rattle.decoder.specs.declared.Item.{Item}
-use Rattle.trace.specs.declared.Entry.{Entry}
 use Rattle.trace.specs.File.{entryAt, bodyLengths, bodyStart, firstItems}
 use Rattle.trace.specs.Beginning.{heldItemIn}
-use Rattle.trace.proofs.Entries.{more-lengths, whole-entry}
+use Rattle.trace.proofs.Entries.{more-items, walked}
 use Rattle.rules.specs.Answers.{answerOf, lengthsIn}
 use Rattle.judge.specs.AsLeft.{AsLeft}
 use Rattle.judge.proofs.file.judge_items.Statement.{statement}
 use Rattle.judge.proofs.file.judge_items.Tie as tie
-
--- one item more
-next-items : (item : ℕ → Item) (i : ℕ) → firstItems item (i + 1) ≡ firstItems item i ++ item i ∷ []
-unfolding firstItems
-next-items item i = ap (firstItems item) (add-one i)
 
 abbrev Inv-loop : tie.InvT-loop
 Inv-loop beginning header ranges₀ marks₀ state₀ start₀ event₀ ranges marks state start event =
@@ -73,16 +65,14 @@ loop-again c =
     let f = now (c .before .before .before .before .before .before .before .before .before .before .before .before .before .before .before .before .before .before .args .beginning) in
     let loop = c .before .before .before .before .before .before .before .before .before .before .before .before .loop in
     let i = loop .event in
-    let entry = c .before .before .before .before .before .before .before .before .before .entry-of .ensures in
+    let entry = c .before .before .before .before .before .before .before .before .before .entry-of in
     let called = c .before .before .before .before .before .before .before .before .item-at in
-    let same : called .result ≡ heldItemIn f i = rw (called .ensures, loop .inv .1, entry) in
-    let added = ap (λ (e : Entry). e .length) (entry ∙ whole-entry f i (omega (arith, pre .1 .1 .0))) in
-    let more = more-lengths f i in
+    let (here, on) = walked f i (loop .start) (entry .result) (loop .inv .1) (entry .ensures) (omega (arith, pre .1 .1 .0)) in
     let step = c .before .before .before .before .before .step-item .ensures in
     let carried = step .carried _ _ (loop .inv .3) in
     let items : firstItems (heldItemIn f) i ++ called .result ∷ [] ≡ firstItems (heldItemIn f) (i + 1) =
-    ap (λ x. firstItems (heldItemIn f) i ++ x ∷ []) same ∙ sym (next-items (heldItemIn f) i) in
-    (omega arith, omega (arith, added, more), omega arith, rw items at (carried .left), omega arith, omega arith)
+    ap (λ x. firstItems (heldItemIn f) i ++ x ∷ []) (called .ensures ∙ here) ∙ sym (more-items (heldItemIn f) i) in
+    (omega arith, on, omega arith, rw items at (carried .left), omega arith, omega arith)
 
 answer-requires : tie.Need-answer-requires Inv-loop μ-loop
 answer-requires c κs = tt

@@ -8,9 +8,10 @@ use borrow.Author.Needs.{needs}
 use lib.ListN.{length}
 use Rattle.trace.specs.File.{entryAt, bodyLengths, bodyStart, firstItems}
 use Rattle.trace.specs.Beginning.{heldItemIn}
+use Rattle.trace.proofs.Entries.{walked}
 use Rattle.moves.specs.Acting.{Memories, memories}
 use Rattle.run.specs.Acting.{actedItem, actedAll, left}
-use Rattle.run.proofs.Items.{next-acted, loads-within, each-faultless, fills, walked}
+use Rattle.run.proofs.Items.{next-acted, loads-within, each-faultless, fills}
 use Rattle.run.proofs.events.act_all.Statement.{statement}
 use Rattle.run.proofs.events.act_all.Tie as tie
 

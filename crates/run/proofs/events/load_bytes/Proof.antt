@@ -7,8 +7,9 @@ use denote.Ref.{now}
 use borrow.Author.Needs.{needs}
 use Rattle.trace.specs.File.{entryAt, bodyLengths, bodyStart, firstItems}
 use Rattle.trace.specs.Beginning.{heldItemIn}
+use Rattle.trace.proofs.Entries.{walked}
 use Rattle.run.specs.Running.{loadSizeOf, loadBytes}
-use Rattle.run.proofs.Items.{next-load-bytes, walked}
+use Rattle.run.proofs.Items.{next-load-bytes}
 use Rattle.run.proofs.events.load_bytes.Statement.{statement}
 use Rattle.run.proofs.events.load_bytes.Tie as tie
 

@@ -2,7 +2,7 @@
 -- Assumes nothing.
 use mathlib.Core.Path.{sym, _∙_}
 use Rattle.answer.specs.Table.{eventLimit}
-use Rattle.trace.specs.Beginning.{checkOf}
+use Rattle.trace.specs.Beginning.{heldOf, checkOf}
 use Rattle.trace.proofs.Shapes.{counted}
 use borrow.Author.Needs.{needs}
 use Rattle.trace.proofs.items.check.Statement.{statement}
@@ -24,11 +24,11 @@ check-items-requires c κs =
     (known .0, (known .1, known .2))
 
 returns : tie.Need-returns
-unfolding checkOf
+unfolding checkOf heldOf
 returns c = rw (← c .before .before .shape-of .ensures, c .enum-told .given .1)
 
 returns-2 : tie.Need-returns-2
-unfolding checkOf
+unfolding checkOf heldOf
 returns-2 c =
     rw (c .check-items .ensures, ← c .before .before .before .before .shape-of .ensures, c .before .before .shape .given .1)
 

@@ -3,14 +3,13 @@
 -- Assumes nothing.
 use borrow.Author.Needs.{needs}
 use Prim.Native.Nat.{_+_, _*_, _-_, _≤_}
-use mathlib.Core.Path.{_≡_, refl, sym, ap, _∙_}
+use mathlib.Core.Path.{_≡_, refl, sym, _∙_}
 use mathlib.Core.Bool.{true}
 use native.Mathlib.Omega.{arith}
 use denote.Ref.{now}
-use Rattle.trace.specs.declared.Entry.{Entry}
 use Rattle.trace.specs.File.{entryAt, bodyLengths, bodyStart, firstItems}
 use Rattle.trace.specs.Beginning.{heldItemIn}
-use Rattle.trace.proofs.Entries.{more-lengths, whole-entry}
+use Rattle.trace.proofs.Entries.{walked}
 use Rattle.trace.proofs.Faults.{allDecoded, found, none, one-more}
 use Rattle.decoder.specs.Kinds.{isDecoded}
 use Rattle.decoder.proofs.Variants.{undecoded}
@@ -48,8 +47,10 @@ returns : tie.Need-returns Inv-loop μ-loop
 returns c =
     let f = now (c .before .before .before .before .before .before .before .before .args .beginning) in
     let loop = c .before .before .before .before .before .loop in
+    let entry = c .before .before .before .entry-of in
     let called = c .before .before .item-at in
-    let same : called .result ≡ heldItemIn f (loop .event) = rw (called .ensures, loop .inv .1, c .before .before .before .entry-of .ensures) in
+    let (here, on) = walked f (loop .event) (loop .start) (entry .result) (loop .inv .1) (entry .ensures) (omega arith) in
+    let same = called .ensures ∙ here in
     rw (c .refusal .ensures, same)
     (sym (found (heldItemIn f) (loop .event) _ _ (omega arith) (loop .inv .2)
     (rw (← same) (undecoded (called .result) (c .before .match .keys2)))))
@@ -71,13 +72,11 @@ loop-again c =
     let f = now (c .before .before .before .before .before .before .before .before .before .args .beginning) in
     let loop = c .before .before .before .before .before .before .loop in
     let i = loop .event in
-    let entry = c .before .before .before .before .entry-of .ensures in
+    let entry = c .before .before .before .before .entry-of in
     let called = c .before .before .before .item-at in
-    let same : called .result ≡ heldItemIn f i = rw (called .ensures, loop .inv .1, entry) in
-    let added = ap (λ (e : Entry). e .length) (entry ∙ whole-entry f i (omega arith)) in
-    let more = more-lengths f i in
-    let decoded : isDecoded (heldItemIn f i) ≡ true = rw (← same, c .before .enum-told .given .1) in
-    (omega arith, omega arith, one-more (heldItemIn f) i (loop .inv .2) decoded, omega arith)
+    let (here, on) = walked f i (loop .start) (entry .result) (loop .inv .1) (entry .ensures) (omega arith) in
+    let decoded : isDecoded (heldItemIn f i) ≡ true = rw (← called .ensures ∙ here, c .before .enum-told .given .1) in
+    (omega arith, on, one-more (heldItemIn f) i (loop .inv .2) decoded, omega arith)
 
 returns-2 : tie.Need-returns-2 Inv-loop μ-loop
 returns-2 c =

@@ -1,4 +1,4 @@
--- `trace::table::shape_of` meets its contract: a header that is not whole is refused first.
+-- `trace::table::shape_of` meets its contract: a header that is not whole, or a beginning that is longer than its file, is refused first.
 -- Assumes nothing.
 use mathlib.Core.Path.{sym}
 use borrow.Author.Tests.{leb-true}
@@ -7,21 +7,23 @@ use lib.ListN.{length}
 use denote.Ref.{now}
 use Rattle.answer.specs.Table.{eventLimit}
 use Rattle.answer.proofs.Both.{both}
-use Rattle.trace.proofs.Shapes.{too-short}
+use Rattle.trace.proofs.Shapes.{not-headed}
 use borrow.Author.Needs.{needs}
 use Rattle.trace.proofs.table.shape_of.Statement.{statement}
 use Rattle.trace.proofs.table.shape_of.Tie as tie
 
 headed-requires : tie.Need-headed-requires
 headed-requires c κs =
-    let t = both (leb 12 (c .before .before .args .total)) (leb 12 (length (now (c .before .before .args .beginning)))) (c .if1 .taken) in
+    let a = c .before .before .args in
+    let f = now (a .beginning) in
+    let t = both (leb 12 (length f)) (leb (length f) (a .total)) (c .if1 .taken) in
     (leb-true _ _ (t .0), leb-true _ _ (t .1))
 
 returns : tie.Need-returns
 returns c = search needs
 
 returns-2 : tie.Need-returns-2
-returns-2 c = sym (too-short eventLimit _ _ (c .if1 .left))
+returns-2 c = sym (not-headed eventLimit _ _ (c .if1 .left))
 
 pub shape-of-spec : {M : Type 1} → statement M
 shape-of-spec = tie.close (tie.spec headed-requires returns returns-2)
