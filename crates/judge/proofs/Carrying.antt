@@ -85,7 +85,7 @@ module _ {lengths : Lengths} {items : List Item} {s : State} {ranges marks : Lis
         ∙ (λ i. ended (lengthsOf (state i)) (suc eventLimit) answer.TooManyEvents))
   ]
 
-  pub carried-counted : (item : Item) (s′ : State) → goesOn s (length ranges) (length marks) ≡ false → s′ ≡ counted s
+  carried-counted : (item : Item) (s′ : State) → goesOn s (length ranges) (length marks) ≡ false → s′ ≡ counted s
       → Carried lengths items item ranges marks s′ ranges marks
   carried-counted item s′ stops e = by-way (how left)
     where
@@ -147,7 +147,7 @@ module _ {lengths : Lengths} {items : List Item} {s : State} {ranges marks : Lis
         carried-refused lengths items item ranges marks (left .ranges-long) (left .marks-long) a (s .events + 1) s′ q refusal count
         (e ∙ (λ i. ended (lengthsOf (g .state i)) (s .events + 1) a))
 
-    pub carried-undecoded : (item : Item) (s′ : State) → isDecoded item ≡ false → s′ ≡ refusedBy s (refusalOf (s .events) item)
+    carried-undecoded : (item : Item) (s′ : State) → isDecoded item ≡ false → s′ ≡ refusedBy s (refusalOf (s .events) item)
         → Carried lengths items item ranges marks s′ ranges marks
     carried-undecoded item s′ no-event e =
         let g = goes on item in
@@ -160,7 +160,7 @@ module _ {lengths : Lengths} {items : List Item} {s : State} {ranges marks : Lis
     its-fault : (e : Event) (g : Goes (Decoded e)) → faultAlone (lengthsOf s) (s .events) e ≡ faultAlone lengths (length (g .es)) e
     its-fault e g = λ i. faultAlone (lengthsOf (g .state i)) (g .state i .events) e
 
-    pub carried-fault : (event : Event) (a : Answer) (s′ : State) → a ≡ faultAlone (lengthsOf s) (s .events) event
+    carried-fault : (event : Event) (a : Answer) (s′ : State) → a ≡ faultAlone (lengthsOf s) (s .events) event
         → ¬ (codeOf a ≡ 0) → s′ ≡ refusedBy s a → Carried lengths items (Decoded event) ranges marks s′ ranges marks
     carried-fault event a s′ fault refusal e =
         let g = goes on (Decoded event) in

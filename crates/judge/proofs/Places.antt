@@ -1,9 +1,9 @@
--- What a step changes in the places.
+-- What a step changes in the places: the statements of specs/Places.antt.
 -- Assumes nothing.
 use Prim.Native.Nat.{ℕ, suc, _+_, _*_, _-_, _≤_}
 use native.Mathlib.Omega.{arith}
 use mathlib.Core.Path.{_≡_, refl, sym, ap, _∙_}
-use mathlib.Core.Bool.{Bool, true, false, not, cond, _||_, true≢false, false≢true}
+use mathlib.Core.Bool.{Bool, true, false, not, cond, true≢false, false≢true}
 use mathlib.Core.List.{List, [], _∷_, map}
 use lib.ListN.{length, drop, set}
 use lib.Seq.{sets, drop-drop, drop-append-add, drop-set-lt}
@@ -31,11 +31,13 @@ use Rattle.parts.specs.Parts.{partOf}
 use Rattle.rules.specs.Closing.{isOperation}
 use Rattle.rules.specs.Faults.{Lengths}
 use Rattle.rules.specs.Peak.{openAfter}
+use Rattle.rules.specs.Waited.{MayAdd}
+use Rattle.rules.specs.Waited as waited
 use Rattle.rules.specs.Theorems.{answerTo, IsAccepted}
 use Rattle.judge.specs.declared.State.{State}
 use Rattle.judge.specs.AsLeft.{placeLength, AsLeft}
 use Rattle.judge.specs.Step.{isNoVerdict, lengthsOf, goesOn, After, leaving, refusedBy, passedTo, counted, orClash, leftBy, itemLeaves, stepOf}
-use Rattle.judge.specs.Theorems.{isWait, Unchanged, refuses}
+use Rattle.judge.specs.Places.{Unchanged, refuses, RefusalsChangeNone, AccessesAndCommitsChangeNone, OperationsChangeTheirRecord, WaitsKeepRecords, WordsPastStay, OneRecordEach}
 use Rattle.judge.proofs.Sound.{going, counted-refusal}
 use Rattle.judge.proofs.Opens.{starts, length-open}
 use Rattle.judge.proofs.Acting.{Holds, held-records}
@@ -125,7 +127,7 @@ module _ (s : State) (ranges marks : List ℕ) where
       by-part-refusal (part.Commit made) = refl
       by-part-refusal (part.Wait made wait) = refl
 
-  pub refusal-unchanged : (item : Item) → refuses (stepOf item s ranges marks) ≡ true
+  refusal-unchanged : (item : Item) → refuses (stepOf item s ranges marks) ≡ true
       → Unchanged ranges marks (stepOf item s ranges marks)
   refusal-unchanged item h = by-way (either item) h
     where
@@ -135,27 +137,27 @@ module _ (s : State) (ranges marks : List ℕ) where
           absurd (false≢true (sym (still-none (partOf (s .events) (s .made) (eventIn item)) on) ∙ k))
 
   -- ---- what is no operation and no wait is an access or a commit
-  part-unchanged : (e : Event) → (isOperation e || isWait e) ≡ false
+  part-unchanged : (e : Event) → isOperation e ≡ false → ¬ MayAdd e
       → Unchanged ranges marks (passing (partOf (s .events) (s .made) e))
-  part-unchanged (Load (Global at) size) h = (refl, refl)
-  part-unchanged (Load (Shared at) size) h = (refl, refl)
-  part-unchanged (Store (Global at) size low high) h = (refl, refl)
-  part-unchanged (Store (Shared at) size low high) h = (refl, refl)
-  part-unchanged (Copy dst src cpSize mode cache) h = absurd (true≢false h)
-  part-unchanged Commit h = (refl, refl)
-  part-unchanged (Wait n) h = absurd (true≢false h)
-  part-unchanged WaitAll h = absurd (true≢false h)
-  part-unchanged (BulkCopy dst src size) h = absurd (true≢false h)
-  part-unchanged (BulkReduction dst src size operation element) h = absurd (true≢false h)
-  part-unchanged BulkCommit h = (refl, refl)
-  part-unchanged (BulkWait n) h = absurd (true≢false h)
+  part-unchanged (Load (Global at) size) h k = (refl, refl)
+  part-unchanged (Load (Shared at) size) h k = (refl, refl)
+  part-unchanged (Store (Global at) size low high) h k = (refl, refl)
+  part-unchanged (Store (Shared at) size low high) h k = (refl, refl)
+  part-unchanged (Copy dst src cpSize mode cache) h k = absurd (true≢false h)
+  part-unchanged Commit h k = (refl, refl)
+  part-unchanged (Wait n) h k = absurd (k waited.wait)
+  part-unchanged WaitAll h k = absurd (k waited.wait-all)
+  part-unchanged (BulkCopy dst src size) h k = absurd (true≢false h)
+  part-unchanged (BulkReduction dst src size operation element) h k = absurd (true≢false h)
+  part-unchanged BulkCommit h k = (refl, refl)
+  part-unchanged (BulkWait n) h k = absurd (k waited.bulk-wait)
 
-  pub none-changed : (e : Event) → (isOperation e || isWait e) ≡ false → Unchanged ranges marks (stepOf (Decoded e) s ranges marks)
-  none-changed e h = by-way (either (Decoded e))
+  none-changed : (e : Event) → isOperation e ≡ false → ¬ MayAdd e → Unchanged ranges marks (stepOf (Decoded e) s ranges marks)
+  none-changed e h k = by-way (either (Decoded e))
     where
       by-way : {after : After} → Either (Decoded e) after → Unchanged ranges marks after
       by-way (refusing s′ r) = (refl, refl)
-      by-way (passes on) = part-unchanged e h
+      by-way (passes on) = part-unchanged e h k
 
   -- ---- an operation and a wait, where no refusal stands
   abbrev PutsRecord : Event → After → Type 0
@@ -163,7 +165,7 @@ module _ (s : State) (ranges marks : List ℕ) where
       (r : Record) × (partOf (s .events) (s .made) e ≡ part.Operation r)
       × (after .ranges ≡ sets ranges (4 * s .unclosed) (rangeWords r)) × (after .marks ≡ sets marks (4 * s .unclosed) (markWords r))
 
-  pub record-put : (e : Event) → isOperation e ≡ true → refuses (stepOf (Decoded e) s ranges marks) ≡ false
+  record-put : (e : Event) → isOperation e ≡ true → refuses (stepOf (Decoded e) s ranges marks) ≡ false
       → PutsRecord e (stepOf (Decoded e) s ranges marks)
   record-put e h = by-way (either (Decoded e))
     where
@@ -179,25 +181,18 @@ module _ (s : State) (ranges marks : List ℕ) where
       × (after .ranges ≡ placed rangeWords (kept wait (records (s .unclosed) ranges marks)) ranges)
       × (after .marks ≡ placed markWords (kept wait (records (s .unclosed) ranges marks)) marks)
 
-  wait-keeps : (e : Event) → isWait e ≡ true → KeepsRecords e (passing (partOf (s .events) (s .made) e))
-  wait-keeps (Load address size) h = absurd (false≢true h)
-  wait-keeps (Store address size low high) h = absurd (false≢true h)
-  wait-keeps (Copy dst src cpSize mode cache) h = absurd (false≢true h)
-  wait-keeps Commit h = absurd (false≢true h)
-  wait-keeps (Wait n) h = (_, _, refl, refl, refl)
-  wait-keeps WaitAll h = (_, _, refl, refl, refl)
-  wait-keeps (BulkCopy dst src size) h = absurd (false≢true h)
-  wait-keeps (BulkReduction dst src size operation element) h = absurd (false≢true h)
-  wait-keeps BulkCommit h = absurd (false≢true h)
-  wait-keeps (BulkWait n) h = (_, _, refl, refl, refl)
+  wait-keeps : {e : Event} → MayAdd e → KeepsRecords e (passing (partOf (s .events) (s .made) e))
+  wait-keeps waited.wait = (_, _, refl, refl, refl)
+  wait-keeps waited.wait-all = (_, _, refl, refl, refl)
+  wait-keeps waited.bulk-wait = (_, _, refl, refl, refl)
 
-  pub records-kept : (e : Event) → isWait e ≡ true → refuses (stepOf (Decoded e) s ranges marks) ≡ false
+  records-kept : (e : Event) → MayAdd e → refuses (stepOf (Decoded e) s ranges marks) ≡ false
       → KeepsRecords e (stepOf (Decoded e) s ranges marks)
   records-kept e h = by-way (either (Decoded e))
     where
       by-way : {after : After} → Either (Decoded e) after → refuses after ≡ false → KeepsRecords e after
       by-way (refusing s′ r) k = absurd (true≢false (sym (ap not r) ∙ k))
-      by-way (passes on) k = wait-keeps e h
+      by-way (passes on) k = wait-keeps h
 
   -- ---- the words past the stated length
   abbrev PastStays : After → Type 0
@@ -219,7 +214,7 @@ module _ (s : State) (ranges marks : List ℕ) where
       omega (arith, kept-fewer wait (records (s .unclosed) ranges marks), length-records (s .unclosed) ranges marks) in
       (past-stays rangeWords four-ranges rs ranges placeLength few, past-stays markWords four-marks rs marks placeLength few)
 
-  pub past-unchanged : (item : Item) → PastStays (stepOf item s ranges marks)
+  past-unchanged : (item : Item) → PastStays (stepOf item s ranges marks)
   past-unchanged item = by-way (either item)
     where
       by-way : {after : After} → Either item after → PastStays after
@@ -227,7 +222,7 @@ module _ (s : State) (ranges marks : List ℕ) where
       by-way (passes on) = part-past (partOf (s .events) (s .made) (eventIn item)) on
 
 -- ---- one record for each open operation
-pub one-each : (lengths : Lengths) (es : List Event) (s : State) (ranges marks : List ℕ)
+one-each : (lengths : Lengths) (es : List Event) (s : State) (ranges marks : List ℕ)
     → AsLeft lengths (map Decoded es) s ranges marks → IsAccepted (answerTo lengths es)
     → (s .unclosed ≡ openAfter es (length es)) × (records (s .unclosed) ranges marks ≡ openAt es)
 one-each lengths es s ranges marks left h =
@@ -239,3 +234,28 @@ one-each lengths es s ranges marks left h =
       in-marks = left .marks-hold ∙ ap (λ rs. placed markWords rs marks) opens;
     } in
     (count, held-records holds)
+
+-- ---- the statements
+pub refusalsChangeNone : RefusalsChangeNone
+unfolding RefusalsChangeNone
+refusalsChangeNone item s ranges marks = refusal-unchanged s ranges marks item
+
+pub accessesAndCommitsChangeNone : AccessesAndCommitsChangeNone
+unfolding AccessesAndCommitsChangeNone
+accessesAndCommitsChangeNone e s ranges marks = none-changed s ranges marks e
+
+pub operationsChangeTheirRecord : OperationsChangeTheirRecord
+unfolding OperationsChangeTheirRecord
+operationsChangeTheirRecord e s ranges marks = record-put s ranges marks e
+
+pub waitsKeepRecords : WaitsKeepRecords
+unfolding WaitsKeepRecords
+waitsKeepRecords e s ranges marks = records-kept s ranges marks e
+
+pub oneRecordEach : OneRecordEach
+unfolding OneRecordEach
+oneRecordEach = one-each
+
+pub wordsPastStay : WordsPastStay
+unfolding WordsPastStay
+wordsPastStay item s ranges marks = past-unchanged s ranges marks item

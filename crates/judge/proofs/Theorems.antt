@@ -21,12 +21,11 @@ use Rattle.judge.specs.declared.State.{State}
 use Rattle.judge.specs.AsLeft.{AsLeft}
 use Rattle.judge.specs.Step.{isNoVerdict, isRefusal, isSound, opened, answerIn, counted, After, leaving, stepOf}
 use Rattle.judge.specs.Beginnings.{answerOfBeginning}
-use Rattle.judge.specs.Theorems.{steps, StepsAnswer, StepsAnswerFiles, BeginningAnswers, GivenOfBeginnings, PlacesFit, RefusalsChangeNone, AccessesAndCommitsChangeNone, OperationsChangeTheirRecord, WaitsKeepRecords, OneRecordEach, WordsPastStay, AnyStateAnswers, FaultsShow, without, LostRefusalsShow}
+use Rattle.judge.specs.Theorems.{steps, StepsAnswer, StepsAnswerFiles, BeginningAnswers, GivenOfBeginnings, PlacesFit, AnyStateAnswers, FaultsShow, without, LostRefusalsShow}
 use Rattle.judge.proofs.Sound.{counted-refusal}
 use Rattle.judge.proofs.Beginnings.{beginning-answers, beginning-fits}
 use Rattle.judge.proofs.Carrying.{step-carries, step-counted}
 use Rattle.judge.proofs.Leaving.{How, passing, over, how}
-use Rattle.judge.proofs.Places.{refusal-unchanged, none-changed, record-put, records-kept, past-unchanged, one-each}
 use Rattle.judge.proofs.Telling.{opening-left, told, told-left}
 
 -- ---- the answers
@@ -63,30 +62,6 @@ givenOfBeginnings f total = fits-given (answerOfBeginning f total) (beginning-fi
 pub placesFit : PlacesFit
 unfolding PlacesFit
 placesFit = omega arith
-
-pub refusalsChangeNone : RefusalsChangeNone
-unfolding RefusalsChangeNone
-refusalsChangeNone item s ranges marks = refusal-unchanged s ranges marks item
-
-pub accessesAndCommitsChangeNone : AccessesAndCommitsChangeNone
-unfolding AccessesAndCommitsChangeNone
-accessesAndCommitsChangeNone e s ranges marks = none-changed s ranges marks e
-
-pub operationsChangeTheirRecord : OperationsChangeTheirRecord
-unfolding OperationsChangeTheirRecord
-operationsChangeTheirRecord e s ranges marks = record-put s ranges marks e
-
-pub waitsKeepRecords : WaitsKeepRecords
-unfolding WaitsKeepRecords
-waitsKeepRecords e s ranges marks = records-kept s ranges marks e
-
-pub oneRecordEach : OneRecordEach
-unfolding OneRecordEach
-oneRecordEach = one-each
-
-pub wordsPastStay : WordsPastStay
-unfolding WordsPastStay
-wordsPastStay item s ranges marks = past-unchanged s ranges marks item
 
 -- ---- states that no judge leaves
 pub anyStateAnswers : AnyStateAnswers
