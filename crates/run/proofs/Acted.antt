@@ -14,6 +14,7 @@ use Rattle.effect.specs.Memory.{Global, Shared, State, write}
 use Rattle.effect.specs.Effect.{Effect, nothing, load, store, copy, bulkCopy, bulkReduction, does}
 use Rattle.effect.proofs.Memories.{write-append}
 use Rattle.rules.specs.Events.{effectOf}
+use Rattle.rules.specs.Closing.{allOf}
 use Rattle.rules.specs.Faults.{Lengths}
 use Rattle.rules.specs.Orders.{Action, actionsOf, PermittedOrder}
 use Rattle.rules.specs.Outcomes.{loadOf, loadsOf}
@@ -23,7 +24,7 @@ use Rattle.rules.proofs.Eager as eager
 use Rattle.rules.proofs.Eager.{stepped, withRead, lasts, reads, step-apart, eager-outcome}
 use Rattle.rules.proofs.Lists.{same-bytes}
 use Rattle.moves.specs.Acting.{Memories, memories, alone, readBy, acted}
-use Rattle.run.specs.Running.{Lent, lent, loadBytes, together, leaving, leaves}
+use Rattle.run.specs.Running.{Lent, lent, loadBytes, lentAfter, leaves}
 use Rattle.run.specs.Acting.{actedAll, left}
 use Rattle.run.proofs.Items.{fills}
 
@@ -53,11 +54,11 @@ same-read : (e : Event) (m : Memories) → readBy e m ≡ eager.readBy (effectOf
 same-read e m = ap (λ (s : State). getD (s .loaded) 0 []) (apart e m)
 
 -- ---- what loads read, one after the other
-together-append : (xs ys : List (List ℕ)) → together (xs ++ ys) ≡ together xs ++ together ys
-together-append [] ys = refl
-together-append (x ∷ xs) ys = ap (λ l. x ++ l) (together-append xs ys) ∙ sym (append-assoc x (together xs) (together ys))
+all-of-append : (xs ys : List (List ℕ)) → allOf (xs ++ ys) ≡ allOf xs ++ allOf ys
+all-of-append [] ys = refl
+all-of-append (x ∷ xs) ys = ap (λ l. x ++ l) (all-of-append xs ys) ∙ sym (append-assoc x (allOf xs) (allOf ys))
 
-of-event : (e : Event) (s : State) → together (loadOf e (eager.readBy (effectOf e) s)) ≡ eager.readBy (effectOf e) s
+of-event : (e : Event) (s : State) → allOf (loadOf e (eager.readBy (effectOf e) s)) ≡ eager.readBy (effectOf e) s
 of-event (Load at size) s = append-nil _
 of-event (Store at size low high) s = refl
 of-event (Copy dst src cpSize mode cache) s = refl
@@ -70,12 +71,12 @@ of-event BulkCommit s = refl
 of-event (BulkWait n) s = refl
 
 abbrev readAll : List Event → State → List ℕ
-readAll es s = together (loadsOf es (reads es s))
+readAll es s = allOf (loadsOf es (reads es s))
 
 read-next : (e : Event) (es : List Event) (m : Memories)
     → readAll (e ∷ es) (stateOf m) ≡ readBy e m ++ readAll es (stateOf (acted e m))
 read-next e es m =
-    together-append (loadOf e (eager.readBy (effectOf e) (stateOf m))) (loadsOf es (reads es (stepped 0 e (stateOf m))))
+    all-of-append (loadOf e (eager.readBy (effectOf e) (stateOf m))) (loadsOf es (reads es (stepped 0 e (stateOf m))))
     ∙ ap₂ (λ first s. first ++ readAll es s) (of-event e (stateOf m) ∙ sym (same-read e m)) (sym (next-state e m))
 
 -- ---- all events
@@ -104,7 +105,7 @@ pub every-order : (lengths : Lengths) (es : List Event) (before : Lent) → IsAc
 every-order lengths es before accepted room order permitted =
     ap left (all-acted es m)
     ∙ ap (lent (lasts es s .global) (lasts es s .shared)) in-record
-    ∙ ap (λ o. leaving o (before .loadRecord)) (sym (eager-outcome es (before .global) (before .shared))
+    ∙ ap (λ o. lentAfter o (before .loadRecord)) (sym (eager-outcome es (before .global) (before .shared))
     ∙ same-bytes lengths es accepted (actionsOf es) order (has-order es) permitted (before .global) (before .shared))
   where
     m : Memories

@@ -50,7 +50,7 @@ no-acceptance (answer.NoRoom event) tag h = omega (arith, h)
 no-acceptance answer.NotWritten tag h = omega (arith, h)
 
 -- a run with a refusal for an answer leaves all as it was
-pub ran-refused : (contents : Contents) (before : Lent) (a : Answer) → a ≡ answerOfRun contents before → ¬ IsAccepted a
+ran-refused : (contents : Contents) (before : Lent) (a : Answer) → a ≡ answerOfRun contents before → ¬ IsAccepted a
     → Ran contents before a before
 ran-refused contents before a e refuses = record {
   answers = e;
@@ -59,7 +59,7 @@ ran-refused contents before a e refuses = record {
 }
 
 -- ---- by what the file says
-pub run-refused : (a : Answer) (before : Lent) → a ≡ answerOfRun (refused a) before
+run-refused : (a : Answer) (before : Lent) → a ≡ answerOfRun (refused a) before
 unfolding answerOfRun
 run-refused a before = refl
 
@@ -94,7 +94,7 @@ module _ (header : Header) (items : List Item) (before : Lent) where
 same-items : {h h′ : Header} {items items′ : List Item} → recorded h items ≡ recorded h′ items′ → items ≡ items′
 same-items e = cc
 
-pub ran-accepted : (header : Header) (items : List Item) (before : Lent) → areLent header before ≡ true
+ran-accepted : (header : Header) (items : List Item) (before : Lent) → areLent header before ≡ true
     → IsAccepted (answerOf (lengthsIn header) items) → loadBytes items ≤ length (before .loadRecord)
     → Ran (recorded header items) before (answerOf (lengthsIn header) items)
     (left (actedAll items (memories (before .global) (before .shared) (before .loadRecord) 0)))
@@ -209,7 +209,7 @@ module _ (f : List ℕ) (k : ℕ) (long : enough eventLimit ≤ k) {before after
           rw (ran .refusal none)
           (ran-refused (recorded header whole) before a (ran .answers ∙ by-lent refuses (areLent header before) refl) none)
 
-  pub carried : Ran (heldOf eventLimit (take k f) (length f)) before a after → Ran (fileOf eventLimit f) before a after
+  carried : Ran (heldOf eventLimit (take k f) (length f)) before a after → Ran (fileOf eventLimit f) before a after
   unfolding fileOf
   carried ran = by-shape (shapeOf eventLimit f (length f)) refl (rw contents at ran)
     where

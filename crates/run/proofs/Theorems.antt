@@ -33,7 +33,7 @@ use Rattle.rules.proofs.Accepted.{accepted-items}
 use Rattle.rules.proofs.Files.{list-fits, answer-recorded, still-accepted-file, still-the-same-file}
 use Rattle.judge.proofs.Beginnings.{Says, shapeless, listed, says}
 use Rattle.moves.specs.Acting.{loadSize}
-use Rattle.run.specs.Running.{Lent, isAccepted, loadBytes, orNoRoom, areLent, answerOfRun, leaving}
+use Rattle.run.specs.Running.{Lent, isAccepted, loadBytes, orNoRoom, areLent, answerOfRun, lentAfter}
 use Rattle.run.specs.Theorems.{OneOutcome, OneRun, GivenInRuns, AsJudged, MoreWaitingInRuns}
 use Rattle.run.proofs.Answers.{run-not-lent, run-judged, run-no-room, run-room}
 
@@ -179,7 +179,7 @@ unfolding MoreWaitingInRuns
 moreWaitingInRuns f f′ lengths es es′ holds holds′ w before a a′ after after′ ran ran′ accepts = (
   accepts′,
   ran′ .acceptance accepts′ _ es′ holds′ (actionsOf es′) (has-order es′)
-      ∙ ap (λ o. leaving o (before .loadRecord))
+      ∙ ap (λ o. lentAfter o (before .loadRecord))
       (still-the-same-file f f′ lengths es es′ holds holds′ w in-file (actionsOf es) (actionsOf es′) (has-order es) (has-order es′) (before .global) (before .shared))
       ∙ sym (ran .acceptance accepts _ es holds (actionsOf es) (has-order es)),
 )

@@ -12,6 +12,7 @@ use Rattle.decoder.specs.declared.Item.{Item}
 use Rattle.decoder.specs.declared.Item.the-variants.{Decoded, UnknownKind, WrongBodyLength, FieldNotAllowed}
 use Rattle.trace.specs.declared.Header.{Header}
 use Rattle.trace.specs.File.{Contents, refused, recorded}
+use Rattle.rules.specs.Closing.{allOf}
 use Rattle.rules.specs.Orders.{Action, PermittedOrder}
 use Rattle.rules.specs.Answers.{answerOf, lengthsIn}
 use Rattle.rules.specs.Outcomes.{Outcome, outcome}
@@ -64,21 +65,17 @@ answerOfRun (recorded header items) before =
 
 -- ---- What is left.
 
--- Bytes one after the other.
-abbrev pub together : List (List ℕ) → List ℕ
-together [] = []
-together (bytes ∷ rest) = bytes ++ together rest
-
 -- Loads are appended to the load record in file order; bytes past them stay.
 abbrev pub appended : List (List ℕ) → List ℕ → List ℕ
-appended loads loadRecord = together loads ++ drop (length (together loads)) loadRecord
+appended loads loadRecord = allOf loads ++ drop (length (allOf loads)) loadRecord
 
-abbrev pub leaving : Outcome → List ℕ → Lent
-leaving o loadRecord = lent (o .global) (o .shared) (appended (o .loads) loadRecord)
+-- What is lent, after an outcome.
+abbrev pub lentAfter : Outcome → List ℕ → Lent
+lentAfter o loadRecord = lent (o .global) (o .shared) (appended (o .loads) loadRecord)
 
 -- What an order of the list's actions leaves of what is lent.
 abbrev pub leaves : List Event → List Action → Lent → Lent
-leaves es order before = leaving (outcome es (before .global) (before .shared) order) (before .loadRecord)
+leaves es order before = lentAfter (outcome es (before .global) (before .shared) order) (before .loadRecord)
 
 -- A run of a file that says this, or whose beginning does: its answer, and what the lent things hold afterwards.
 pub record Ran (contents : Contents) (before : Lent) (answer : Answer) (after : Lent) : Type 0 where

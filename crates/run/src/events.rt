@@ -23,14 +23,14 @@ pub(crate) fn load_bytes(beginning: &[u8], events: u32) -> usize
     while event < events {
         let entry = trace::entry_of(beginning, event);
         let item = trace::item_at(beginning, start, entry);
-        total += load_size(item) as usize;
+        total += load_size_of(item) as usize;
         start += entry.length as usize;
         event += 1;
     }
     total
 }
 
-fn load_size(item: Item) -> u32
+fn load_size_of(item: Item) -> u32
     ensures { λ r. ⌜ r ≡ loadSizeOf item ⌝ }
 {
     let Item::Decoded(event) = item else {
@@ -58,14 +58,20 @@ pub(crate) fn act_all(
     while event < events {
         let entry = trace::entry_of(beginning, event);
         let item = trace::item_at(beginning, start, entry);
-        filled = act(item, global, shared, loads, filled);
+        filled = act_item(item, global, shared, loads, filled);
         start += entry.length as usize;
         event += 1;
     }
 }
 
 // An item that does not decode, which no accepted list has, does nothing.
-fn act(item: Item, global: &mut [u8], shared: &mut [u8], loads: &mut [u8], filled: usize) -> usize
+fn act_item(
+    item: Item,
+    global: &mut [u8],
+    shared: &mut [u8],
+    loads: &mut [u8],
+    filled: usize,
+) -> usize
     requires { ⌜ FaultlessItem (record { global = length (now global); shared = length (now shared) }) item ⌝ }
     requires { ⌜ filled + loadSizeOf item ≤ length (now loads) ⌝ }
     ensures { λ r. ⌜ memories (now (global .exit)) (now (shared .exit)) (now (loads .exit)) r ≡ actedItem item (memories (now (global .entry)) (now (shared .entry)) (now (loads .entry)) filled) ⌝ }

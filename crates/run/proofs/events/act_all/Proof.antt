@@ -38,8 +38,8 @@ entry-of-requires c κs = tt
 item-at-requires : tie.Need-item-at-requires Inv-loop μ-loop
 item-at-requires c κs = tt
 
-act-requires : tie.Need-act-requires Inv-loop μ-loop
-act-requires c κs =
+act-item-requires : tie.Need-act-item-requires Inv-loop μ-loop
+act-item-requires c κs =
     let start = c .before .before .before .before .before .before .before .before .before .before .before .before in
     let f = now (start .args .beginning) in
     let loop = c .before .before .before .before .before .before .loop in
@@ -76,7 +76,7 @@ loop-again c =
     let (same, on) = walked f (loop .event) (loop .start) (entry .result) (inv .1) (entry .ensures) (omega (arith, start .pre .0 .2)) in
     let here = c .before .before .before .before .before .before .before .before .before .before .before .item-at .ensures ∙ same in
     let first = memories (now (start .args .global)) (now (start .args .shared)) (now (start .args .loads)) 0 in
-    let acts = c .before .before .before .before .before .before .before .act .ensures ∙ ap₂ actedItem here (inv .3) ∙ sym (next-acted (heldItemIn f) (loop .event) first) in
+    let acts = c .before .before .before .before .before .before .before .act-item .ensures ∙ ap₂ actedItem here (inv .3) ∙ sym (next-acted (heldItemIn f) (loop .event) first) in
     (omega arith, on, omega arith, acts, omega arith, omega arith, omega arith)
 
 same-length : tie.Need-same-length Inv-loop μ-loop
@@ -105,7 +105,7 @@ act-all-spec =
     loop-holds
     entry-of-requires
     item-at-requires
-    act-requires
+    act-item-requires
     cast-start
     add-start
     add-event

@@ -34,8 +34,8 @@ entry-of-requires c κs = tt
 item-at-requires : tie.Need-item-at-requires Inv-loop μ-loop
 item-at-requires c κs = tt
 
-load-size-requires : tie.Need-load-size-requires Inv-loop μ-loop
-load-size-requires c κs = tt
+load-size-of-requires : tie.Need-load-size-of-requires Inv-loop μ-loop
+load-size-of-requires c κs = tt
 
 cast-total : tie.Need-cast-total Inv-loop μ-loop
 cast-total c = search needs
@@ -63,7 +63,7 @@ loop-again c =
     let entry = c .before .before .before .entry-of in
     let item = c .before .before .item-at in
     let (here, on) = walked f (loop .event) (loop .start) (entry .result) (loop .inv .1) (entry .ensures) (omega (arith, start .pre .2)) in
-    let size = c .before .load-size .ensures ∙ ap loadSizeOf (item .ensures ∙ here) in
+    let size = c .before .load-size-of .ensures ∙ ap loadSizeOf (item .ensures ∙ here) in
     (omega arith, on, omega arith, omega (arith, loop .inv .3, size, next-load-bytes (heldItemIn f) (loop .event)), omega arith)
 
 returns : tie.Need-returns Inv-loop μ-loop
@@ -82,7 +82,7 @@ load-bytes-spec =
     loop-holds
     entry-of-requires
     item-at-requires
-    load-size-requires
+    load-size-of-requires
     cast-total
     add-total
     cast-start

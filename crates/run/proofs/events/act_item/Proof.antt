@@ -1,4 +1,4 @@
--- `events::act` meets its contract.
+-- `events::act_item` meets its contract.
 -- Assumes nothing.
 use denote.Ref.{now}
 use mathlib.Core.Path.{sym, ap, _∙_}
@@ -7,8 +7,8 @@ use Rattle.moves.specs.Acting.{memories}
 use Rattle.run.specs.Acting.{actedItem}
 use Rattle.run.proofs.Items.{idle}
 use borrow.Author.Needs.{needs}
-use Rattle.run.proofs.events.act.Statement.{statement}
-use Rattle.run.proofs.events.act.Tie as tie
+use Rattle.run.proofs.events.act_item.Statement.{statement}
+use Rattle.run.proofs.events.act_item.Tie as tie
 
 enum-known-item : tie.Need-enum-known-item
 enum-known-item c = search needs
@@ -38,8 +38,8 @@ returns-2 c =
     let a = c .before .before .before .before .before .before .before .before .before .before .before .before .before .before .before .before .args in
     c .before .before .before .before .before .before .act .ensures ∙ ap (λ i. actedItem i (memories (now (a .global)) (now (a .shared)) (now (a .loads)) (a .filled))) (sym (c .before .before .before .before .before .before .before .before .before .before .before .item .given .1))
 
-pub act-spec : {M : Type 1} → statement M
-act-spec =
+pub act-item-spec : {M : Type 1} → statement M
+act-item-spec =
     tie.close
     (tie.spec
     enum-known-item

@@ -1,10 +1,10 @@
--- `events::load_size` meets its contract.
+-- `events::load_size_of` meets its contract.
 -- Assumes nothing.
 use Rattle.decoder.proofs.Variants.{undecoded}
 use Rattle.run.proofs.Items.{no-size}
 use borrow.Author.Needs.{needs}
-use Rattle.run.proofs.events.load_size.Statement.{statement}
-use Rattle.run.proofs.events.load_size.Tie as tie
+use Rattle.run.proofs.events.load_size_of.Statement.{statement}
+use Rattle.run.proofs.events.load_size_of.Tie as tie
 
 enum-known-item : tie.Need-enum-known-item
 enum-known-item c = search needs
@@ -18,5 +18,5 @@ load-size-requires c κs = search needs
 returns-2 : tie.Need-returns-2
 returns-2 c = search needs
 
-pub load-size-spec : {M : Type 1} → statement M
-load-size-spec = tie.close (tie.spec enum-known-item returns load-size-requires returns-2)
+pub load-size-of-spec : {M : Type 1} → statement M
+load-size-of-spec = tie.close (tie.spec enum-known-item returns load-size-requires returns-2)
