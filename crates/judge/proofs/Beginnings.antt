@@ -20,7 +20,7 @@ use Rattle.trace.specs.Beginning.{enough, heldItemIn, heldContents, heldOf}
 use Rattle.trace.proofs.Faults.{allDecoded, all-append, length-first, further}
 use Rattle.trace.proofs.Alike.{Following, Alike, same, up-to, one-more-same, alike}
 use Rattle.trace.proofs.Shapes.{counted}
-use Rattle.trace.proofs.Held.{held-whole, shape-decided, item-there}
+use Rattle.trace.proofs.Held.{held-whole, shape-decided, items-there}
 use Rattle.rules.specs.Faults.{Lengths}
 use Rattle.rules.specs.Answers.{answerOf, lengthsIn, answerOfContents, answerOfFile}
 use Rattle.rules.specs.Theorems.{IsAccepted}
@@ -83,7 +83,7 @@ module _ (f : List ℕ) (k : ℕ) (long : enough eventLimit ≤ k) where
     beginning-judged =
         answers-agree (lengthsIn header) (itemIn f) (heldItemIn (take k f)) (header .events)
         (counted eventLimit (length f) f header e .1)
-        (λ i few decoded. item-there eventLimit k f header i long e few decoded)
+        (items-there eventLimit k f header long e)
 
     -- and, where it is accepted, the file's items
     pub beginning-items : IsAccepted (answerOf (lengthsIn header) (firstItems (heldItemIn (take k f)) (header .events)))
@@ -91,7 +91,7 @@ module _ (f : List ℕ) (k : ℕ) (long : enough eventLimit ≤ k) where
     beginning-items =
         same-accepted (lengthsIn header) (itemIn f) (heldItemIn (take k f)) (header .events)
         (counted eventLimit (length f) f header e .1)
-        (λ i few decoded. item-there eventLimit k f header i long e few decoded)
+        (items-there eventLimit k f header long e)
 
   pub beginning-answers : answerOfBeginning (take k f) (length f) ≡ answerOfFile f
   unfolding answerOfBeginning answerOfFile heldOf fileOf

@@ -116,10 +116,10 @@ module _ (f : List ℕ) (total : ℕ) (before : Lent) where
   pub shape-refused : (a : Answer) → shapeOf eventLimit f total ≡ Refused a → Ran (heldOf eventLimit f total) before a before
   shape-refused a e =
       let contents = held-shape f total (Refused a) e in
-      rw contents (ran-refused (refused a) before a (run-refused a before) (no-verdict (rw contents at (says f total))))
+      rw contents (ran-refused (refused a) before a (run-refused a before) (refusal-of (rw contents at (says f total))))
     where
-      no-verdict : Says (refused a) → ¬ IsAccepted a
-      no-verdict (shapeless refuses fits) = refuses
+      refusal-of : Says (refused a) → ¬ IsAccepted a
+      refusal-of (shapeless refuses fits) = refuses
 
   module _ (header : Header) (shape : shapeOf eventLimit f total ≡ Formed header) where
     abbrev items : List Item

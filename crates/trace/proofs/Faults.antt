@@ -2,7 +2,7 @@
 -- Assumes nothing.
 use Prim.Native.Nat.{ℕ, zero, suc, _+_, _-_, _<_}
 use mathlib.Core.Path.{_≡_, refl, sym, ap, _∙_}
-use mathlib.Core.Bool.{Bool, true, false, _&&_, and-assoc, true≢false}
+use mathlib.Core.Bool.{Bool, true, false, _&&_, and-assoc}
 use mathlib.Core.List.{List, [], _∷_, _++_, append-assoc, append-nil}
 use native.Mathlib.Omega.{arith}
 use native.Mathlib.Nat.{add-zero, zero-add, add-suc}
@@ -26,24 +26,13 @@ all-append [] ys = refl
 all-append (x ∷ xs) ys = rw (and-assoc, all-append xs ys)
 
 -- Past items that decode, the search goes on.
-pub goes-on : (i : ℕ) (xs ys : List Item) (s : Shape) → allDecoded xs ≡ true
+goes-on : (i : ℕ) (xs ys : List Item) (s : Shape) → allDecoded xs ≡ true
     → orFault i (xs ++ ys) s ≡ orFault (i + length xs) ys s
 goes-on i [] ys s h = rw add-zero
 goes-on i (x ∷ xs) ys s h =
     let t = both (isDecoded x) (allDecoded xs) h in
     let on : i + suc (length xs) ≡ i + 1 + length xs = omega arith in
     rw (t .0, on) (goes-on (i + 1) xs ys s (t .1))
-
--- Where one does not decode, what follows does not matter.
-pub stops : (i : ℕ) (xs ys : List Item) (s : Shape) → allDecoded xs ≡ false → orFault i (xs ++ ys) s ≡ orFault i xs s
-stops i [] ys s h = absurd (true≢false h)
-stops i (x ∷ xs) ys s h = go (isDecoded x) refl (stops (i + 1) xs ys s)
-  where
-    go : (t : Bool) → isDecoded x ≡ t
-        → (allDecoded xs ≡ false → orFault (i + 1) (xs ++ ys) s ≡ orFault (i + 1) xs s)
-        → orFault i ((x ∷ xs) ++ ys) s ≡ orFault i (x ∷ xs) s
-    go true e rest = rw e (rest (rw e at h))
-    go false e rest = rw e
 
 pub length-first : (item : ℕ → Item) (i : ℕ) → length (firstItems item i) ≡ i
 unfolding firstItems

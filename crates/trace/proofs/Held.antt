@@ -23,7 +23,7 @@ use Rattle.trace.specs.File.{eventsIn, headerIn, reservedZero, entryAt, 
 use Rattle.trace.specs.Beginning.{enough, heldItem, heldItemIn, heldContents, heldOf, checkedFile, checkOf}
 use Rattle.trace.proofs.Entries.{more-lengths, whole-entry}
 use Rattle.trace.proofs.Faults.{allDecoded, all-append}
-use Rattle.trace.proofs.Alike.{same-fault}
+use Rattle.trace.proofs.Alike.{Following, same-fault}
 use Rattle.decoder.proofs.Rows.{long-body}
 use Rattle.trace.proofs.Shapes.{formed, table-held}
 
@@ -194,11 +194,9 @@ module _ (limit k : ℕ) (f : List ℕ) (i : ℕ) (long : enough limit ≤ k) (m
       (sym (long-body (kindIn f i) (bodyIn f i) (rw (length-body f i within) over)))
 
 -- Up to the first item that does not decode, the beginning has the file's items.
-pub item-there : (limit k : ℕ) (f : List ℕ) (h : Header) (i : ℕ) → enough limit ≤ k → shapeOf limit f (length f) ≡ Formed h
-    → i < h .events
-    → allDecoded (firstItems (itemIn f) i) ≡ true
-    → heldItemIn (take k f) i ≡ itemIn f i
-item-there limit k f h i long e few decoded =
+pub items-there : (limit k : ℕ) (f : List ℕ) (h : Header) → enough limit ≤ k → shapeOf limit f (length f) ≡ Formed h
+    → Following (itemIn f) (heldItemIn (take k f)) (h .events)
+items-there limit k f h long e i few decoded =
     let p = formed limit (length f) f h e in
     let same = ap (λ (g : Header). g .events) (p .0) in
     let most = p .1 in
@@ -223,4 +221,4 @@ check-decided limit k f long = rw (shape-decided limit k f long) (go (shapeOf li
     go : (s : Shape) → shapeOf limit f (length f) ≡ s → checkedFile (heldContents (take k f) s) ≡ checkedFile (contentsOf f s)
     go (Refused answer) e = refl
     go (Formed h) e =
-        same-fault (itemIn f) (heldItemIn (take k f)) (h .events) (Formed h) (λ i few decoded. item-there limit k f h i long e few decoded)
+        same-fault (itemIn f) (heldItemIn (take k f)) (h .events) (Formed h) (items-there limit k f h long e)
