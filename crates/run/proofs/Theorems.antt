@@ -34,7 +34,7 @@ use Rattle.rules.proofs.Files.{list-fits, answer-recorded, still-accepted-file,
 use Rattle.judge.proofs.Beginnings.{Says, shapeless, listed, says}
 use Rattle.moves.specs.Acting.{loadSize}
 use Rattle.run.specs.Running.{Lent, isAccepted, loadBytes, orNoRoom, areLent, answerOfRun, lentAfter}
-use Rattle.run.specs.Theorems.{OneOutcome, OneRun, GivenInRuns, AsJudged, MoreWaitingInRuns}
+use Rattle.run.specs.Theorems.{OneResult, OneRun, GivenInRuns, AsJudged, MoreWaitingInRuns}
 use Rattle.run.proofs.Answers.{run-not-lent, run-judged, run-no-room, run-room}
 
 -- ---- what an accepted run tells of its file
@@ -73,9 +73,9 @@ module _ (header : Header) (items : List Item) (before : Lent) where
   told-accepted accepts = by-lengths (areLent header before) refl accepts
 
 -- ---- one run
-one-outcome : {contents : Contents} → Says contents → OneOutcome contents
+one-result : {contents : Contents} → Says contents → OneResult contents
 unfolding answerOfRun
-one-outcome {contents} said before a a′ after after′ ran ran′ = (same, by-acceptance (isAccepted a) refl)
+one-result {contents} said before a a′ after after′ ran ran′ = (same, by-acceptance (isAccepted a) refl)
   where
     same : a ≡ a′
     same = ran .answers ∙ sym (ran′ .answers)
@@ -104,7 +104,7 @@ file-says f = rw (← held-whole eventLimit f) (says f (length f))
 
 pub oneRun : OneRun
 unfolding OneRun
-oneRun = (λ f total. one-outcome (says f total), λ f. one-outcome (file-says f))
+oneRun = (λ f total. one-result (says f total), λ f. one-result (file-says f))
 
 -- ---- the sheet
 no-room-fits : (n : ℕ) → n ≤ eventLimit → Fits (answer.NoRoom n)

@@ -23,15 +23,15 @@ abbrev pub RanFile : List ℕ → Lent → Answer → Lent → Type 0
 RanFile f before answer after = Ran (fileOf eventLimit f) before answer after
 
 -- With these contents one answer and one outcome meet the promise of a run.
-abbrev pub OneOutcome : Contents → Type 0
-OneOutcome contents =
+abbrev pub OneResult : Contents → Type 0
+OneResult contents =
     (before : Lent) (a a′ : Answer) (after after′ : Lent)
     → Ran contents before a after → Ran contents before a′ after′ → (a ≡ a′) × (after ≡ after′)
 
 -- So it is whatever bytes and length are handed over for a beginning and its file's, and with those of a file.
 unfoldable pub OneRun : Type 0
 OneRun =
-    ((f : List ℕ) (total : ℕ) → OneOutcome (heldOf eventLimit f total)) × ((f : List ℕ) → OneOutcome (fileOf eventLimit f))
+    ((f : List ℕ) (total : ℕ) → OneResult (heldOf eventLimit f total)) × ((f : List ℕ) → OneResult (fileOf eventLimit f))
 
 -- The answer of either is one that the sheet's reader gives.
 unfoldable pub GivenInRuns : Type 0
