@@ -29,12 +29,12 @@ use Rattle.event.specs.declared.Operation.{Operation}
 use Rattle.event.specs.declared.SharedAddress.{SharedAddress}
 use Rattle.event.specs.Fields.{isThreadSize, isCopySize, isBulkSize, isValue, isMode, isCache, isPair, allowed}
 use Rattle.decoder.specs.Encoding.{offsetOf}
-use Rattle.effect.specs.Memory.{Space, Global, Shared, State, initial, read, write, get, put}
+use Rattle.effect.specs.Memory.{Global, Shared, initial, read, write, get}
 use Rattle.effect.specs.Access.{Access, reading, writing}
 use Rattle.rules.specs.Events.{memoryOf, bytesRead, accesses}
 use Rattle.rules.specs.Faults.{Lengths, lengthOf, aligned, inside, allInside, inRange, faultless}
 use Rattle.rules.proofs.Booleans.{or-cases}
-use Rattle.moves.specs.Acting.{loadSize, Memories, memories, alone, acted}
+use Rattle.moves.specs.Acting.{loadSize, Memories, moved, memories, alone, acted}
 use Rattle.moves.proofs.Parts.{length-read, part-back}
 
 -- ---- an event without fault keeps to the memories
@@ -158,10 +158,6 @@ pub silent : (e : Event) (m : Memories) → alone e m .loaded ≡ [] ∷ []
 unfolding acted
 silent e m none = rw (none, add-zero)
 
-pub store-silent : (space : Space) (at : ℕ) (bytes : List ℕ) (s : State) → put space at bytes s .loaded ≡ s .loaded
-store-silent Global at bytes s = refl
-store-silent Shared at bytes s = refl
-
 -- a load leaves the memories, and appends to the record what it reads
 pub loaded : (at : Address) (size : ℕ) (m : Memories) (new : List ℕ)
     → offsetOf at + size ≤ lengthOf (record { global = length (m .global); shared = length (m .shared) }) (memoryOf at)
@@ -188,14 +184,16 @@ loaded at size m new fits room e = by-address at fits e
     by-address (address.Shared a) fits e = appended (read (m .shared) (a .0) size) (length-read (m .shared) (a .0) size fits) e
 
 -- an event of another variant than the first is no load
-pub no-load : (e : Event) → OneOf (1 ∷ 2 ∷ 3 ∷ 4 ∷ 5 ∷ 6 ∷ 7 ∷ 8 ∷ 9 ∷ []) (tagOf the-type e) → 0 ≡ loadSize e
+pub no-load : (e : Event) → OneOf (1 ∷ 2 ∷ 3 ∷ 4 ∷ 5 ∷ 6 ∷ 7 ∷ 8 ∷ 9 ∷ []) (tagOf the-type e)
+    → (0 ≡ loadSize e) × ((global shared : List ℕ) → moved e global shared .loaded ≡ [] ∷ [])
 no-load (Load at size) tag = absurd (miss (1 ∷ 2 ∷ 3 ∷ 4 ∷ 5 ∷ 6 ∷ 7 ∷ 8 ∷ 9 ∷ []) 0 tt tag)
-no-load (Store at size low high) tag = refl
-no-load (Copy dst src cpSize mode cache) tag = refl
-no-load Commit tag = refl
-no-load (Wait n) tag = refl
-no-load WaitAll tag = refl
-no-load (BulkCopy dst src size) tag = refl
-no-load (BulkReduction dst src size operation element) tag = refl
-no-load BulkCommit tag = refl
-no-load (BulkWait n) tag = refl
+no-load (Store (address.Global at) size low high) tag = (refl, λ global shared. refl)
+no-load (Store (address.Shared at) size low high) tag = (refl, λ global shared. refl)
+no-load (Copy dst src cpSize mode cache) tag = (refl, λ global shared. refl)
+no-load Commit tag = (refl, λ global shared. refl)
+no-load (Wait n) tag = (refl, λ global shared. refl)
+no-load WaitAll tag = (refl, λ global shared. refl)
+no-load (BulkCopy dst src size) tag = (refl, λ global shared. refl)
+no-load (BulkReduction dst src size operation element) tag = (refl, λ global shared. refl)
+no-load BulkCommit tag = (refl, λ global shared. refl)
+no-load (BulkWait n) tag = (refl, λ global shared. refl)

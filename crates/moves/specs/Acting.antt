@@ -31,9 +31,12 @@ pub record Memories : Type 0 where
 abbrev pub memories : List ℕ → List ℕ → List ℕ → ℕ → Memories
 memories global shared loads filled = record { global = global; shared = shared; loads = loads; filled = filled }
 
--- The event alone, as a list of one event.
+-- The memories after the event alone, as a list of one event.
+abbrev pub moved : Event → List ℕ → List ℕ → State
+moved e global shared = does 0 (effectOf e) (initial global shared 1)
+
 abbrev pub alone : Event → Memories → State
-alone e m = does 0 (effectOf e) (initial (m .global) (m .shared) 1)
+alone e m = moved e (m .global) (m .shared)
 
 -- What it has read, if it is a load.
 abbrev pub readBy : Event → Memories → List ℕ

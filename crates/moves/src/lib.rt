@@ -11,7 +11,7 @@ ghost use mathlib.Core.Bool.{true};
 ghost use Prim.Native.Nat.{_+_, _≤_};
 ghost use lib.ListN.{length};
 ghost use Rattle.rules.specs.Faults.{faultless};
-ghost use Rattle.moves.specs.Acting.{loadSize, memories, acted};
+ghost use Rattle.moves.specs.Acting.{loadSize, moved, memories, acted};
 
 // An event without fault acts, on memories of the lengths that it was judged by. Its load goes to index `filled` of the
 // record; the index past it is returned.
@@ -26,37 +26,42 @@ pub fn act(
     requires { ⌜ filled + loadSize event ≤ length (now loads) ⌝ }
     ensures { λ r. ⌜ memories (now (global .exit)) (now (shared .exit)) (now (loads .exit)) r ≡ acted event (memories (now (global .entry)) (now (shared .entry)) (now (loads .entry)) filled) ⌝ }
 {
+    if let Event::Load { address, size } = event {
+        let end = filled + (size as usize);
+        thread::load(address, size, global, shared, &mut loads[filled..end]);
+        end
+    } else {
+        move_bytes(event, global, shared);
+        filled
+    }
+}
+
+// Writes what a store, a copy, a bulk copy or a reduction writes to its memory; the other events write to none.
+fn move_bytes(event: Event, global: &mut [u8], shared: &mut [u8])
+    requires { ⌜ faultless (record { global = length (now global); shared = length (now shared) }) event ≡ true ⌝ }
+    ensures { λ _. ⌜ now (global .exit) ≡ moved event (now (global .entry)) (now (shared .entry)) .global ⌝ }
+    ensures { λ _. ⌜ now (shared .exit) ≡ moved event (now (global .entry)) (now (shared .entry)) .shared ⌝ }
+{
     match event {
-        Event::Load { address, size } => {
-            let end = filled + (size as usize);
-            thread::load(address, size, global, shared, &mut loads[filled..end]);
-            end
-        }
+        Event::Load { .. } => {}
         Event::Store {
             address,
             size,
             low,
             high,
-        } => {
-            thread::store(address, size, low, high, global, shared);
-            filled
-        }
+        } => thread::store(address, size, low, high, global, shared),
         Event::Copy {
             dst,
             src,
             cp_size,
             mode,
             ..
-        } => {
-            copies::copy(dst, src, bytes_read(mode, cp_size), cp_size, global, shared);
-            filled
-        }
-        Event::Commit => filled,
-        Event::Wait(_) => filled,
-        Event::WaitAll => filled,
+        } => copies::copy(dst, src, bytes_read(mode, cp_size), cp_size, global, shared),
+        Event::Commit => {}
+        Event::Wait(_) => {}
+        Event::WaitAll => {}
         Event::BulkCopy { dst, src, size } => {
-            memory::write_global(global, dst, memory::shared_part(shared, src, size));
-            filled
+            memory::write_global(global, dst, memory::shared_part(shared, src, size))
         }
         Event::BulkReduction {
             dst,
@@ -64,12 +69,9 @@ pub fn act(
             size,
             operation,
             element,
-        } => {
-            copies::bulk_reduction(dst, src, size, operation, element, global, shared);
-            filled
-        }
-        Event::BulkCommit => filled,
-        Event::BulkWait(_) => filled,
+        } => copies::bulk_reduction(dst, src, size, operation, element, global, shared),
+        Event::BulkCommit => {}
+        Event::BulkWait(_) => {}
     }
 }
 

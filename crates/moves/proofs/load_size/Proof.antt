@@ -12,7 +12,7 @@ returns : tie.Need-returns
 returns c = search needs
 
 returns-2 : tie.Need-returns-2
-returns-2 c = no-load (c .before .args .event) (c .match .keys2)
+returns-2 c = no-load (c .before .args .event) (c .match .keys2) .0
 
 pub load-size-spec : {M : Type 1} → statement M
 load-size-spec = tie.close (tie.spec enum-known-event returns returns-2)
