@@ -10,6 +10,7 @@ use lib.Dec.{leb, ltb}
 use lib.ListN.{length, getD, List·getD-eq-default}
 use borrow.Author.Tests.{leb-true, ltb-true, eqb-true, leb-false}
 use Rattle.little_endian.specs.Number.{isZero}
+use Rattle.little_endian.proofs.Tests.{all-three}
 use Rattle.answer.specs.declared.Answer.{Answer}
 use Rattle.answer.specs.declared.Answer.the-variants.{NoVerdict, Accepted, WrongShape, TooManyEvents, WrongMemoryLength, UnknownKind, WrongBodyLength, FieldNotAllowed, Misaligned, OutOfRange, Clash, NoRoom, NotWritten}
 use Rattle.answer.specs.declared.Numbers.{Numbers}
@@ -17,7 +18,6 @@ use Rattle.answer.specs.declared.table.Named.{Named}
 use Rattle.answer.specs.declared.table.Named.the-variants.{Unread, Nothing, Count, CountAndPeak, Event, EventAndPartner}
 use Rattle.answer.specs.Numbers.{four, numbersOf, cases, caseOf}
 use Rattle.answer.specs.Table.{eventLimit, rows, namedBy, fitNamed, fit}
-use Rattle.answer.proofs.Both.{all-three}
 
 -- The numbers of an answer name it.
 pub named-again : (a : Answer) → caseOf (numbersOf a) ≡ a

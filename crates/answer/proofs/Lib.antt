@@ -1,5 +1,4 @@
 -- Laws that the functions' proofs cite, and the proofs of the theorems.
-pub mod Both
 pub mod Fitting
 pub mod TwoBytes
 pub mod Reading

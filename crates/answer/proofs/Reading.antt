@@ -7,13 +7,13 @@ use mathlib.Core.List.{List}
 use lib.Dec.{eqb}
 use lib.ListN.{length}
 use borrow.Author.Tests.{eq-eqb, ne-eqb, eqb-true}
+use Rattle.little_endian.proofs.Tests.{both, all-three}
 use Rattle.answer.specs.declared.Answer.{Answer}
 use Rattle.answer.specs.declared.Answer.the-variants.{NoVerdict}
 use Rattle.answer.specs.declared.Numbers.{Numbers}
 use Rattle.answer.specs.Numbers.{numbersOf, caseOf}
 use Rattle.answer.specs.Table.{fit}
 use Rattle.answer.specs.Sheet.{twoAt, numbersAt, isSheet, readOf}
-use Rattle.answer.proofs.Both.{both, all-three}
 use Rattle.answer.proofs.Fitting.{held}
 
 module _ (s : List ℕ) where

@@ -9,13 +9,13 @@ use lib.Dec.{leb}
 use lib.ListN.{length, take, drop}
 use borrow.Author.Tests.{leb-true}
 use Rattle.little_endian.specs.Number.{bytesOf}
+use Rattle.little_endian.proofs.Tests.{both}
 use Rattle.answer.specs.declared.Answer.{Answer}
 use Rattle.answer.specs.declared.Answer.the-variants.{NotWritten}
 use Rattle.answer.specs.declared.Numbers.{Numbers}
 use Rattle.answer.specs.Numbers.{numbersOf}
 use Rattle.answer.specs.Table.{fit}
 use Rattle.answer.specs.Sheet.{laidOut, sheetOf, isWritten, done, writeAnswer, writeLeaves}
-use Rattle.answer.proofs.Both.{both}
 
 pub never : NotWritten ≡ done → ⊥
 never h = let other : _≡_ {A = ℕ} 12 1 = ap (λ (a : Answer). numbersOf a .code) h in omega arith

@@ -10,9 +10,9 @@ use lib.Dec.{leb, eqb}
 use lib.ListN.{length, getD, drop, drop-of-length-le}
 use lib.Seq.{drop-cons}
 use borrow.Author.Tests.{leb-true, eqb-true, eqb-false}
-use Rattle.answer.proofs.Both.{both, all-three}
 use Rattle.little_endian.specs.Number.{isZero, Bytes, numberAt, bytesOf}
 use Rattle.little_endian.proofs.Widths.{bounded, back}
+use Rattle.little_endian.proofs.Tests.{both, all-three, all-four}
 use Rattle.event.specs.declared.ElementType.the-variants.{B32}
 use Rattle.event.specs.declared.Event.{Event}
 use Rattle.event.specs.declared.Event.the-variants.{Load, Store, Copy, Commit, Wait, WaitAll, BulkCopy, BulkReduction, BulkCommit, BulkWait}
@@ -48,12 +48,6 @@ checked-said kind body meant a e h s = go (meant && allowed a) refl
         let parts = both meant (allowed a) t in
         said kind body a e (rw t at h) (s (parts .0) (parts .1))
     go false t = absurd (false≢true (ap isDecoded (rw t at h)))
-
-four-tests : (a b c d : Bool) → (a && b && c && d) ≡ true → (a ≡ true) × (b ≡ true) × (c ≡ true) × (d ≡ true)
-four-tests a b c d h =
-    let last = both (a && b && c) d h in
-    let others = all-three a b c (last .0) in
-    (others .0, others .1, others .2, last .1)
 
 -- The bytes of a body, one by one and four by four.
 next : (i : ℕ) (s : List ℕ) → i < length s → drop i s ≡ getD s i 0 ∷ drop (i + 1) s
@@ -166,7 +160,7 @@ copy-sound body e bytes n h =
     h
     (λ meant ok.
     let given = eqb (byteAt body 13) 1 || isZero (numberAt 4 body 8) in
-    let parts = four-tests (leb (byteAt body 13) 2) given (leb (byteAt body 14) 1) (isZero (byteAt body 15)) meant in
+    let parts = all-four (leb (byteAt body 13) 2) given (leb (byteAt body 14) 1) (isZero (byteAt body 15)) meant in
     let (mode, srcSize) = mode-said (byteAt body 13) (numberAt 4 body 8) (parts .0) (parts .1) in
     let cache = cache-said (byteAt body 14) (parts .2) in
     let last = sym (eqb-true (byteAt body 15) 0 (parts .3)) in (
@@ -202,7 +196,7 @@ reduction-sound body e bytes n h =
     e
     h
     (λ meant ok.
-    let parts = four-tests (leb (byteAt body 12) 5) (leb (byteAt body 13) 2) (isZero (byteAt body 14)) (isZero (byteAt body 15)) meant in
+    let parts = all-four (leb (byteAt body 12) 5) (leb (byteAt body 13) 2) (isZero (byteAt body 14)) (isZero (byteAt body 15)) meant in
     let operation = operation-said (byteAt body 12) (parts .0) in
     let element = type-said (byteAt body 13) (parts .1) in
     let third = sym (eqb-true (byteAt body 14) 0 (parts .2)) in

@@ -7,7 +7,7 @@ use mathlib.Core.Bool.{Bool, true, false, true≢false}
 use mathlib.Core.List.{List, [], _∷_, _++_, map, map-append}
 use lib.ListN.{length}
 use borrow.Author.Tests.{le-leb, lt-ltb, eqb-true, eq-eqb}
-use Rattle.answer.proofs.Both.{both}
+use Rattle.little_endian.proofs.Tests.{both}
 use Rattle.answer.specs.declared.Answer.{Answer}
 use Rattle.answer.specs.Table.{eventLimit}
 use Rattle.event.specs.declared.Event.{Event}

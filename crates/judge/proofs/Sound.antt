@@ -5,7 +5,7 @@ use mathlib.Core.Path.{_≡_, refl}
 use mathlib.Core.Bool.{Bool, true, false, cond}
 use lib.Dec.{ltb}
 use borrow.Author.Tests.{leb-true, ltb-true, eqb-true, lt-ltb, le-ltb, eq-eqb, ne-eqb}
-use Rattle.answer.proofs.Both.{both}
+use Rattle.little_endian.proofs.Tests.{both}
 use Rattle.answer.specs.declared.Answer.the-variants.{WrongShape, TooManyEvents}
 use Rattle.answer.specs.Table.{eventLimit}
 use Rattle.rules.specs.Theorems.{codeOf}

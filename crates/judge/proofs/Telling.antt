@@ -8,7 +8,6 @@ use mathlib.Core.List.{List, []}
 use lib.Dec.{leb}
 use lib.ListN.{length}
 use borrow.Author.Tests.{le-leb, ne-eqb}
-use Rattle.answer.proofs.Both.{both}
 use Rattle.answer.proofs.Given.{fits-given}
 use Rattle.answer.specs.declared.Answer.{Answer}
 use Rattle.answer.specs.declared.Answer.the-variants.{Accepted, WrongShape, WrongMemoryLength}
@@ -16,6 +15,7 @@ use Rattle.answer.specs.Numbers.{numbersOf}
 use Rattle.answer.specs.Table.{eventLimit, fitNamed, fit}
 use Rattle.answer.specs.Theorems.{Given}
 use Rattle.little_endian.specs.Number.{isZero}
+use Rattle.little_endian.proofs.Tests.{both}
 use Rattle.decoder.specs.declared.Item.{Item}
 use Rattle.operations.specs.Table.{rangeWords, markWords, placed}
 use Rattle.rules.specs.Faults.{Lengths, areMemoryLengths}

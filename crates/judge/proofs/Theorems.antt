@@ -6,11 +6,11 @@ use mathlib.Core.Bool.{Bool, true, false, cond}
 use mathlib.Core.List.{List, [], _∷_, _++_, append-nil, append-assoc}
 use lib.Dec.{leb}
 use borrow.Author.Tests.{leb-true}
+use Rattle.little_endian.proofs.Tests.{both}
 use Rattle.answer.specs.declared.Answer.{Answer}
 use Rattle.answer.specs.declared.Answer.the-variants as answer
 use Rattle.answer.specs.Numbers.{numbersOf}
 use Rattle.answer.specs.Table.{fit}
-use Rattle.answer.proofs.Both.{both}
 use Rattle.answer.proofs.Given.{fits-given}
 use Rattle.decoder.specs.declared.Item.{Item}
 use Rattle.rules.specs.Faults.{Lengths}

@@ -1,2 +1,3 @@
--- Laws of numbers in bytes, each over the number of bytes.
+-- Laws of tests, and of numbers in bytes, each over the number of bytes.
+pub mod Tests
 pub mod Widths

@@ -7,8 +7,8 @@ use native.Mathlib.Omega.{arith}
 use native.Mathlib.Nat.{pow-succ', add-zero, zero-add, suc-add, mul-assoc}
 use native.Mathlib.Numerals.{add-one}
 use lib.Dec.{lit<}
-use lib.ListN.{length, getD, drop}
-use lib.Seq.{drop-cons}
+use lib.ListN.{length, getD, take, drop}
+use lib.Seq.{drop-cons, getD-take, getD-drop}
 use Rattle.little_endian.specs.Number.{Bytes, numberAt, bytesOf}
 
 -- A number in v and w bytes is that in the first v and that in the w after them.
@@ -45,6 +45,27 @@ first (suc w) n rest h =
 pub there : (w n : ℕ) (before rest : List ℕ) → n < 256 ^ w → numberAt w (before ++ (bytesOf w n ++ rest)) (length before) ≡ n
 there w n [] rest h = first w n rest h
 there w n (b ∷ before) rest h = shift w b (before ++ (bytesOf w n ++ rest)) (length before) ∙ there w n before rest h
+
+-- A number that stands among the first bytes stands there in them alone ..
+pub number-take : (w k : ℕ) (s : List ℕ) (i : ℕ) → i + w ≤ k → numberAt w (take k s) i ≡ numberAt w s i
+unfolding numberAt
+number-take zero k s i h = refl
+number-take (suc w) k s i h = rw (getD-take k s i 0 (omega arith), number-take w k s (i + 1) (omega arith))
+
+-- .. and one past them so much earlier in the others.
+pub number-drop : (w k : ℕ) (s : List ℕ) (i : ℕ) → numberAt w (drop k s) i ≡ numberAt w s (k + i)
+unfolding numberAt
+number-drop zero k s i = refl
+number-drop (suc w) k s i =
+    let on : k + (i + 1) ≡ k + i + 1 = omega arith in
+    rw (getD-drop k s i 0, number-drop w k s (i + 1), on)
+
+-- The bytes of a number are bytes, as many as it was to have.
+pub each-byte : (w n : ℕ) → Bytes (bytesOf w n)
+unfolding Bytes bytesOf
+each-byte zero n i = lit< tt
+each-byte (suc w) n zero = omega arith
+each-byte (suc w) n (suc i) = each-byte w (n / 256) i
 
 pub length-bytes : (w n : ℕ) → length (bytesOf w n) ≡ w
 unfolding bytesOf

@@ -14,7 +14,7 @@ use lib.ListN.{length}
 use lib.Dec.{eqb, leb}
 use borrow.Author.Tests.{eqb-true, eqb-false, leb-true, not-true}
 use Rattle.little_endian.specs.Number.{isZero}
-use Rattle.answer.proofs.Both.{both, all-three}
+use Rattle.little_endian.proofs.Tests.{both, all-three, or-cases}
 use Rattle.event.proofs.Event.{the-type}
 use Rattle.event.specs.declared.Address.{Address}
 use Rattle.event.specs.declared.Address.the-variants as address
@@ -33,7 +33,6 @@ use Rattle.effect.specs.Memory.{Global, Shared, initial, read, write, get}
 use Rattle.effect.specs.Access.{Access, reading, writing}
 use Rattle.rules.specs.Events.{memoryOf, bytesRead, accesses}
 use Rattle.rules.specs.Faults.{Lengths, lengthOf, aligned, inside, allInside, inRange, faultless}
-use Rattle.rules.proofs.Booleans.{or-cases}
 use Rattle.moves.specs.Acting.{loadSize, Memories, moved, memories, alone, acted}
 use Rattle.moves.proofs.Parts.{length-read, part-back}
 

@@ -5,6 +5,7 @@ use native.Mathlib.Omega.{arith}
 use mathlib.Core.Path.{_≡_, refl, sym}
 use mathlib.Core.Logic.{_↔_}
 use mathlib.Core.Bool.{Bool, true, false, _||_, false≢true}
+use mathlib.Mathlib.Data.Bool.Basic.{eq-false-of-not-eq-true}
 use lib.Dec.{ltb}
 use borrow.Author.Tests.{ltb-true, lt-ltb, eq-eqb, ne-eqb}
 use Rattle.operations.specs.declared.Range.{Range}
@@ -52,11 +53,7 @@ share-sym s = record { byte = s .byte; in-first = s .in-second; in-second = s .i
 -- whatever tells the same is the same test
 pub same-test : (r : Bool) (a b : Range) → (r ≡ true) ↔ ShareByte a b → r ≡ shareByte a b
 same-test true a b (there, back) = sym (share-tells a b .1 (there refl))
-same-test false a b (there, back) = sym (false-if (shareByte a b) (λ e. false≢true (back (share-tells a b .0 e))))
-  where
-    false-if : (t : Bool) → (t ≡ true → ⊥) → t ≡ false
-    false-if true n = absurd (n refl)
-    false-if false n = refl
+same-test false a b (there, back) = sym (eq-false-of-not-eq-true (λ e. false≢true (back (share-tells a b .0 e))))
 
 -- ---- what the clash of two records comes down to
 module _ (event operation : Record) where

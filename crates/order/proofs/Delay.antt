@@ -1,19 +1,12 @@
 -- An order with the actions that pass a test delayed: first those that fail it, then those that pass, as they stood.
 -- Assumes nothing.
 use mathlib.Core.Path.{_≡_, refl, sym, _∙_, ap}
-use mathlib.Core.Logic.{_≢_, _⊎_, inl, inr, ⊎-elim}
+use mathlib.Core.Logic.{⊎-elim}
 use mathlib.Core.Bool.{Bool, true, false, not, true≢false}
+use mathlib.Mathlib.Data.Bool.Basic.{dichotomy}
 use mathlib.Core.List.{List, [], _∷_, _++_, List·Memᴰ·head, List·Memᴰ·tail, List·Memᴰ·not-nil, List·Memᴰ·append-cases, Memᴰ·append-left, Memᴰ·append-right}
 use Rattle.order.specs.Order.{_∈_, Before, first, later, Once, SameActions}
 use Rattle.order.proofs.Before.{across, before-append-left, before-append-right, Placed, in-first, in-both, in-second, placed}
-
-pub true-or-false : (t : Bool) → (t ≡ true) ⊎ (t ≡ false)
-true-or-false true = inl refl
-true-or-false false = inr refl
-
-pub false-unless-true : (t : Bool) → t ≢ true → t ≡ false
-false-unless-true true h = absurd (h refl)
-false-unless-true false h = refl
 
 module _ {A : Type 0} where
   -- x in front of o, where the test t of x passed
@@ -84,9 +77,9 @@ module _ {A : Type 0} where
     pub delay-all : (o : List A) → SameActions o (delay o)
     delay-all o a = (
       λ m. ⊎-elim
-          (λ pa. Memᴰ·append-right (keep fails o) (in-keep p pa m))
           (λ pa. Memᴰ·append-left (keep p o) (in-keep fails (ap not pa) m))
-          (true-or-false (p a)),
+          (λ pa. Memᴰ·append-right (keep fails o) (in-keep p pa m))
+          (dichotomy (p a)),
       λ m. ⊎-elim (λ k. kept fails o k .0) (λ k. kept p o k .0) (List·Memᴰ·append-cases (keep fails o) m),
     )
 

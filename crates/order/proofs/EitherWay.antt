@@ -5,11 +5,12 @@ use mathlib.Core.Path.{_≡_, refl, sym, _∙_}
 use mathlib.Core.Logic.{_≢_, _↔_, _⊎_, inl, inr, ⊎-elim}
 use mathlib.Core.HLevel.{Discrete}
 use mathlib.Core.Bool.{Bool, true, false, true≢false, _||_, decide}
+use mathlib.Mathlib.Data.Bool.Basic.{eq-false-of-not-eq-true}
 use mathlib.Core.List.{List}
 use Rattle.order.specs.Order.{_∈_, Before, SameActions, Permitted, CanPrecede, EitherWay}
 use Rattle.order.specs.Theorems.{Closure}
 use Rattle.order.proofs.Before.{asymmetric}
-use Rattle.order.proofs.Delay.{false-unless-true, delay, delay-once, delay-all, delay-passes, delay-stays}
+use Rattle.order.proofs.Delay.{delay, delay-once, delay-all, delay-passes, delay-stays}
 
 module _ {A : Type 0} (eq? : Discrete A) {actions : List A} {must : A → A → Type 0} {m : A → A → Bool}
     (closure : Closure actions must m) (some : List A) (ok : Permitted actions must some) where
@@ -68,12 +69,12 @@ module _ {A : Type 0} (eq? : Discrete A) {actions : List A} {must : A → A → 
     where
       cannot : CanPrecede actions must b a → m a b ≡ false
       cannot c =
-          false-unless-true (m a b)
+          eq-false-of-not-eq-true
           (λ h. asymmetric (c .permitted .once) (closure .kept (c .order) (c .permitted) a b la lb h) (c .before))
 
       can : m a b ≡ false → CanPrecede actions must b a
       can h =
-          let not-from : from a b ≡ false = false-unless-true (from a b)
+          let not-from : from a b ≡ false = eq-false-of-not-eq-true
           (λ f. ⊎-elim ne (λ k. true≢false (sym k ∙ h)) (from-cases a b f)) in
           record {
             order = delay (from a) some;

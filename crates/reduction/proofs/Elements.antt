@@ -1,14 +1,14 @@
 -- A reduction element by element, over the width of an element.
 -- Assumes nothing.
-use Prim.Native.Nat.{ℕ, zero, suc, _+_, _*_, _%_, _≤_, _<_}
+use Prim.Native.Nat.{ℕ, suc, _+_, _%_, _≤_, _<_}
 use native.Mathlib.Nat.{mod-eq-of-lt}
 use native.Mathlib.Omega.{arith}
 use mathlib.Core.Path.{_≡_, refl, sym, ap, ap₂, _∙_}
 use mathlib.Core.List.{List, _++_, append-assoc}
 use lib.ListN.{length, take, drop, length-append}
-use lib.Seq.{sets, sets-eq, drop-drop, getD-drop, take-at, drop-at, length-take-le}
+use lib.Seq.{sets, sets-eq, drop-drop, take-at, drop-at, length-take-le}
 use Rattle.little_endian.specs.Number.{numberAt, bytesOf}
-use Rattle.little_endian.proofs.Widths.{length-bytes}
+use Rattle.little_endian.proofs.Widths.{number-drop, length-bytes}
 use Rattle.event.specs.declared.ElementType.{ElementType}
 use Rattle.event.specs.declared.ElementType.the-variants.{B32, U32, S32}
 use Rattle.event.specs.declared.Operation.{Operation}
@@ -16,13 +16,6 @@ use Rattle.effect.specs.Element.{bound, width, elementIn, combineFirst, reduce}
 use Rattle.effect.proofs.Elements.{length-combineFirst}
 
 -- ---- the element that starts at an index
-number-drop : (w at : ℕ) (bytes : List ℕ) (i : ℕ) → numberAt w (drop at bytes) i ≡ numberAt w bytes (at + i)
-unfolding numberAt
-number-drop zero at bytes i = refl
-number-drop (suc w) at bytes i =
-    let on : at + (i + 1) ≡ at + i + 1 = omega arith in
-    ap₂ (λ low high. low + 256 * high) (getD-drop at bytes i 0) (number-drop w at bytes (i + 1) ∙ ap (numberAt w bytes) on)
-
 pub element-at : (w at : ℕ) (bytes : List ℕ) → numberAt w bytes at < bound w → numberAt w bytes at ≡ elementIn w (drop at bytes)
 element-at w at bytes small =
     let here : at + 0 ≡ at = omega arith in

@@ -8,6 +8,7 @@ use mathlib.Core.Bool.{Bool, true, false, not, false≢true}
 use mathlib.Core.List.{List}
 use lib.ListN.{length}
 use borrow.Author.Tests.{not-true}
+use Rattle.little_endian.proofs.Tests.{Tells, and-tells, not-tells, itself}
 use Rattle.event.specs.declared.Event.{Event}
 use Rattle.effect.specs.Effect.{MayShare}
 use Rattle.effect.proofs.Commute.{meet-sym}
@@ -18,7 +19,6 @@ use Rattle.rules.specs.Closing.{closedBy, isOperation, isOpen}
 use Rattle.rules.specs.Orders.{Action, turn, act, momentOf, actionsOf, CanComeEitherWay}
 use Rattle.rules.specs.Clashes.{EventsClash}
 use Rattle.rules.specs.Tests.{mayShare, someMeet, collide, clashes}
-use Rattle.rules.proofs.Booleans.{Tells, and-tells, not-tells, itself}
 use Rattle.rules.proofs.Actions.{event, is-in-actions}
 use Rattle.rules.proofs.Orders.{OpenUpTo, open-not-precedes, operation-free, turn-fixed, other-event}
 use Rattle.rules.proofs.Meeting.{SomeMeet, some-meet-tells, may-share-tells, may-share-sym}

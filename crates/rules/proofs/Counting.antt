@@ -10,11 +10,11 @@ use mathlib.Core.List.{List, _∷_, List·Memᴰ·head, List·Memᴰ·tail, List
 use lib.ListN.{drop}
 use lib.Dec.{eqb}
 use borrow.Author.Tests.{eqb-true, eq-eqb}
+use Rattle.little_endian.proofs.Tests.{Tells, or-cases, or-left, or-right}
 use Rattle.event.specs.declared.Event.{Event}
 use Rattle.order.specs.Order.{_∈_}
 use Rattle.rules.specs.Events.{eventAt}
 use Rattle.rules.specs.Closing.{Chain, NonBulk, Bulk, Role, operation, commit, wait-all, other, wait, role, after, groups, allOf, closes, closedIn, isIn, closedBy}
-use Rattle.rules.proofs.Booleans.{Tells, or-cases, or-left, or-right}
 use Rattle.rules.proofs.Search.{below-or-last, any-tells}
 
 is-in-tells : (i : ℕ) (js : List ℕ) → Tells (isIn i js) (i ∈ js)

@@ -8,7 +8,7 @@ use mathlib.Core.Bool.{Bool, true, false, true≢false}
 use mathlib.Core.List.{List}
 use lib.ListN.{length}
 use borrow.Author.Tests.{eqb-true}
-use Rattle.answer.proofs.Both.{both, all-three}
+use Rattle.little_endian.proofs.Tests.{both, all-three}
 use Rattle.event.specs.declared.ElementType.{ElementType}
 use Rattle.event.specs.declared.ElementType.the-variants.{B32, U32, S32}
 use Rattle.event.specs.declared.Event.{Event}

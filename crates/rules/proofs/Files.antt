@@ -8,7 +8,7 @@ use mathlib.Core.List.{List, [], _∷_, _++_, map}
 use lib.ListN.{length, length-map}
 use lib.Dec.{leb}
 use borrow.Author.Tests.{leb-true}
-use Rattle.answer.proofs.Both.{both}
+use Rattle.little_endian.proofs.Tests.{both}
 use Rattle.answer.specs.declared.Answer.{Answer}
 use Rattle.answer.specs.declared.Answer.the-variants.{WrongShape, TooManyEvents, WrongMemoryLength}
 use Rattle.answer.specs.Table.{eventLimit, fitNamed, fit}

@@ -10,10 +10,10 @@ use mathlib.Core.List.{List, [], _∷_, _++_, map, append-assoc, append-nil}
 use mathlib.Core.Option.{Option, none, some, orElse}
 use lib.ListN.{length, take, length-append, length-take}
 use borrow.Author.Tests.{le-leb}
+use Rattle.little_endian.proofs.Tests.{all-three}
 use Rattle.event.specs.declared.Event.{Event}
 use Rattle.decoder.specs.declared.Item.{Item}
 use Rattle.decoder.specs.declared.Item.the-variants.{Decoded}
-use Rattle.answer.proofs.Both.{all-three}
 use Rattle.answer.specs.declared.Answer.{Answer}
 use Rattle.answer.specs.Table.{eventLimit}
 use Rattle.answer.specs.declared.Answer.the-variants as answer

@@ -1,5 +1,4 @@
 -- Laws of the rules, and the proofs of the theorems.
-pub mod Booleans
 pub mod Search
 pub mod Counting
 pub mod Actions

@@ -9,6 +9,7 @@ use mathlib.Core.List.{List}
 use lib.ListN.{getD}
 use lib.Dec.{eqb, ltb}
 use borrow.Author.Tests.{ltb-true, lt-ltb, eqb-true, eq-eqb}
+use Rattle.little_endian.proofs.Tests.{Tells, and-tells, or-tells, itself}
 use Rattle.event.specs.declared.ElementType.{ElementType}
 use Rattle.event.specs.declared.ElementType.the-variants.{B32, U32, S32}
 use Rattle.event.specs.declared.Operation.{Operation}
@@ -20,7 +21,6 @@ use Rattle.effect.specs.Access.{Access, Meet}
 use Rattle.effect.specs.Effect.{Effect, nothing, load, store, copy, bulkCopy, bulkReduction, MayShare, alike}
 use Rattle.rules.specs.Search.{anyIn}
 use Rattle.rules.specs.Tests.{sameSpace, shareByte, meet, someMeet, reductionWith, sameReduction, mayShare}
-use Rattle.rules.proofs.Booleans.{Tells, and-tells, or-tells, itself}
 use Rattle.rules.proofs.Search.{Some, any-tells}
 
 -- ---- two accesses meet

@@ -4,6 +4,7 @@ use Prim.Native.Nat.{ℕ, zero, suc, _+_, _≤_, _<_, max}
 use native.Mathlib.Omega.{arith}
 use mathlib.Core.Path.{_≡_, refl, sym, _∙_, ap, ap₂}
 use mathlib.Core.Bool.{Bool, true, false, not, cond, _&&_, _||_, false≢true, and-true, and-false}
+use mathlib.Mathlib.Data.Bool.Basic.{eq-false-of-not-eq-true}
 use mathlib.Core.List.{List, [], _∷_, _++_}
 use lib.ListN.{length}
 use lib.Seq.{getD-append-seam}
@@ -11,7 +12,7 @@ use lib.Dec.{ltb}
 use borrow.Author.Tests.{ltb-true, lt-ltb}
 use Rattle.event.specs.declared.Event.{Event}
 use Rattle.event.specs.declared.Event.the-variants.{Load, Store, Copy, Commit, Wait, WaitAll, BulkCopy, BulkReduction, BulkCommit, BulkWait}
-use Rattle.order.proofs.Delay.{false-unless-true}
+use Rattle.little_endian.proofs.Tests.{equal-tests}
 use Rattle.effect.specs.Access.{Access}
 use Rattle.rules.specs.Search.{anyBelow, countBelow}
 use Rattle.rules.specs.Events.{effectOf, accesses, eventAt}
@@ -108,10 +109,6 @@ meets-nothing : (xs : List Access) → someMeet xs [] ≡ false
 meets-nothing [] = refl
 meets-nothing (x ∷ xs) = meets-nothing xs
 
-equal-tests : (s t : Bool) → (s ≡ true → t ≡ true) → (t ≡ true → s ≡ true) → s ≡ t
-equal-tests true t f g = sym (f refl)
-equal-tests false t f g = sym (false-unless-true t (λ e. false≢true (g e)))
-
 -- whether an event closes an operation of its chain that started when the chain had made `started` groups, now that it has
 -- made `made`
 abbrev pub closesNow : Role → ℕ → ℕ → Bool
@@ -185,7 +182,7 @@ module _ (before : List Event) (e : Event) where
   open-new = rw (new, never) (and-true (isOperation e))
     where
       never : anyBelow (closedBy longer n) (suc n) ≡ false
-      never = false-unless-true _ (λ h.
+      never = eq-false-of-not-eq-true (λ h.
           let (w, l, c) = some-below (closedBy longer n) (suc n) h in
           omega (arith, closes-earlier (closed-closes longer n w c)))
 

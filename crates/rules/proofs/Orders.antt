@@ -6,13 +6,13 @@ use native.Mathlib.Decide.{ℕ-discrete}
 use mathlib.Core.Path.{_≡_, sym, _∙_, ap}
 use mathlib.Core.Logic.{_≢_, _↔_}
 use mathlib.Core.Bool.{Bool, true, false, true≢false}
+use mathlib.Mathlib.Data.Bool.Basic.{eq-false-of-not-eq-true}
 use mathlib.Core.List.{List}
 use lib.Dec.{ltb, leb}
 use borrow.Author.Tests.{ltb-true, leb-true, lt-ltb, le-leb}
 use Rattle.event.specs.declared.Event.{Event}
 use Rattle.order.specs.Order.{_∈_, Before, CanPrecede}
 use Rattle.order.proofs.Before.{transitive, asymmetric, first-in, second-in}
-use Rattle.order.proofs.Delay.{false-unless-true}
 use Rattle.order.specs.Theorems.{Closure}
 use Rattle.order.proofs.EitherWay.{either-way}
 use Rattle.rules.specs.Events.{eventAt}
@@ -42,11 +42,11 @@ module _ (es : List Event) where
   open-not-precedes i j = (none-closes, not-any)
     where
       none-closes : anyBelow (closedBy es i) (suc j) ≡ false → OpenUpTo j i
-      none-closes h w le = false-unless-true (closedBy es i w)
+      none-closes h w le = eq-false-of-not-eq-true
           (λ c. true≢false (sym (any-below (closedBy es i) (suc j) w (omega arith) c) ∙ h))
 
       not-any : OpenUpTo j i → anyBelow (closedBy es i) (suc j) ≡ false
-      not-any h = false-unless-true (anyBelow (closedBy es i) (suc j))
+      not-any h = eq-false-of-not-eq-true
           (λ e. let (w, l, c) = some-below (closedBy es i) (suc j) e in true≢false (sym c ∙ h w (omega arith)))
 
   must-precedes : {a b : Action} → Must es a b → precedes a b ≡ true
@@ -135,7 +135,7 @@ module _ (es : List Event) where
 
       not-back : precedes x (act i) ≡ false
       not-back =
-          false-unless-true (precedes x (act i))
+          eq-false-of-not-eq-true
           (λ h. omega (arith, precedes-rank x (act i) h, rank-event x, rank-event (act i)))
 
   -- a turn never comes either way with another action of its event or of a later one

@@ -6,6 +6,7 @@ use native.Mathlib.Decide.{decLt}
 use mathlib.Core.Path.{_≡_, refl, sym, _∙_, ap, ap₂}
 use mathlib.Core.Logic.{_≢_, _⊎_, inl, inr, ⊎-elim}
 use mathlib.Core.Bool.{true, true≢false}
+use mathlib.Mathlib.Data.Bool.Basic.{eq-false-of-not-eq-true}
 use mathlib.Core.List.{List, [], _∷_, _++_, List·Memᴰ·not-nil}
 use lib.ListN.{length}
 use Rattle.answer.specs.Table.{eventLimit}
@@ -13,7 +14,6 @@ use Rattle.event.specs.declared.Event.{Event}
 use Rattle.event.specs.Fields.{allowed}
 use Rattle.effect.specs.Memory.{State}
 use Rattle.order.specs.Order.{_∈_}
-use Rattle.order.proofs.Delay.{false-unless-true}
 use Rattle.effect.specs.Access.{Access}
 use Rattle.rules.specs.Events.{effectOf, accesses, eventAt}
 use Rattle.rules.specs.Faults.{Lengths, aligned, inRange, faultless}
@@ -193,7 +193,7 @@ module _ {es es′ : List Event} (r : Waited es es′) where
 
   open-back : (i j : ℕ) → j < length es → OpenUpTo es′ (place r j) (place r i) → OpenUpTo es j i
   open-back i j l free w le =
-      false-unless-true (closedBy es i w)
+      eq-false-of-not-eq-true
       (λ c. true≢false (sym (closed-kept i w (omega arith) c) ∙ free (place r w) (place-le r w j le)))
 
   -- a clash of the second list is one of the first

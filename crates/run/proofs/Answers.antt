@@ -10,8 +10,8 @@ use types.Run.{OneOf, miss}
 use lib.Dec.{eqb}
 use lib.ListN.{length, take}
 use borrow.Author.Tests.{eqb-true, eqb-false, eq-eqb, ne-eqb, le-leb, lt-leb}
+use Rattle.little_endian.proofs.Tests.{both}
 use Rattle.answer.proofs.Answer.{the-type}
-use Rattle.answer.proofs.Both.{both}
 use Rattle.answer.specs.declared.Answer.{Answer}
 use Rattle.answer.specs.declared.Answer.the-variants as answer
 use Rattle.answer.specs.Table.{eventLimit}

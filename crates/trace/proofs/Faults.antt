@@ -8,7 +8,7 @@ use native.Mathlib.Omega.{arith}
 use native.Mathlib.Nat.{add-zero, zero-add, add-suc}
 use native.Mathlib.Numerals.{add-one}
 use lib.ListN.{length, length-append}
-use Rattle.answer.proofs.Both.{both}
+use Rattle.little_endian.proofs.Tests.{both}
 use Rattle.decoder.specs.declared.Item.{Item}
 use Rattle.trace.specs.declared.Shape.{Shape}
 use Rattle.trace.specs.declared.Shape.the-variants.{Refused}

@@ -10,9 +10,10 @@ use lib.Dec.{leb, eqb}
 use lib.ListN.{length, take, drop, length-take, length-drop}
 use lib.Seq.{getD-take, length-take-le, take-take}
 use borrow.Author.Tests.{leb-true, leb-false, eqb-true, le-leb, lt-leb}
-use Rattle.answer.proofs.Both.{both, all-three}
 use Rattle.answer.specs.declared.Answer.the-variants.{WrongShape, TooManyEvents, WrongMemoryLength}
 use Rattle.little_endian.specs.Number.{numberAt}
+use Rattle.little_endian.proofs.Tests.{both, all-three}
+use Rattle.little_endian.proofs.Widths.{number-take}
 use Rattle.decoder.specs.declared.Item.{Item}
 use Rattle.decoder.specs.declared.Item.the-variants.{UnknownKind, WrongBodyLength}
 use Rattle.trace.specs.declared.Header.{Header}
@@ -74,9 +75,7 @@ held-whole limit f = by-shape (shapeOf limit f (length f)) refl
 -- A beginning of k bytes has the file's bytes up to there.
 module _ (k : ℕ) (f : List ℕ) where
   number-there : (w i : ℕ) → i + w ≤ k → numberAt w (take k f) i ≡ numberAt w f i
-  unfolding numberAt
-  number-there zero i h = refl
-  number-there (suc w) i h = rw (getD-take k f i 0 (omega arith), number-there w (i + 1) (omega arith))
+  number-there w i = number-take w k f i
 
   reaches : (m : ℕ) → m ≤ k → leb m (length (take k f)) ≡ leb m (length f)
   reaches m h = go (leb m (length f)) refl

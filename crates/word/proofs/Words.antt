@@ -9,7 +9,7 @@ use lib.Dec.{lit<}
 use lib.ListN.{replicate}
 use lib.Seq.{sets}
 use Rattle.little_endian.specs.Number.{Bytes, numberAt, bytesOf}
-use Rattle.little_endian.proofs.Widths.{back}
+use Rattle.little_endian.proofs.Widths.{each-byte, back}
 use Rattle.answer.specs.declared.Answer.{Answer}
 use Rattle.answer.specs.declared.Answer.the-variants.{NoVerdict}
 use Rattle.answer.specs.Numbers.{numbersOf}
@@ -38,13 +38,6 @@ written-word a = go (fit (numbersOf a)) refl
 pub put-word : (word : ℕ) → sets (4 ∷ 0 ∷ 8 ∷ replicate 9 0) 4 (bytesOf 8 word) ≡ sheetWith word
 unfolding bytesOf
 put-word word = refl
-
--- A number in bytes is bytes.
-pub each-byte : (w n : ℕ) → Bytes (bytesOf w n)
-unfolding Bytes bytesOf
-each-byte zero n i = lit< tt
-each-byte (suc w) n zero = omega arith
-each-byte (suc w) n (suc i) = each-byte w (n / 256) i
 
 pub sheet-bytes : (word : ℕ) → Bytes (sheetWith word)
 unfolding Bytes bytesOf

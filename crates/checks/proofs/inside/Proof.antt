@@ -3,7 +3,7 @@
 use Prim.Native.Nat.{_+_}
 use native.Mathlib.Omega.{arith}
 use borrow.Author.Tests.{eq-eqb, ne-eqb, lt-leb}
-use Rattle.checks.proofs.Tests.{leb-same}
+use Rattle.little_endian.proofs.Tests.{leb-same}
 use Rattle.checks.proofs.inside.Statement.{statement}
 use Rattle.checks.proofs.inside.Tie as tie
 

@@ -5,8 +5,8 @@ use borrow.Author.Tests.{leb-true}
 use lib.Dec.{leb}
 use lib.ListN.{length}
 use denote.Ref.{now}
+use Rattle.little_endian.proofs.Tests.{both}
 use Rattle.answer.specs.Table.{eventLimit}
-use Rattle.answer.proofs.Both.{both}
 use Rattle.trace.proofs.Shapes.{not-headed}
 use borrow.Author.Needs.{needs}
 use Rattle.trace.proofs.table.shape_of.Statement.{statement}
