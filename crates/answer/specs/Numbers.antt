@@ -25,7 +25,7 @@ numbersOf (Clash event partner) = four 10 event partner 0
 numbersOf (NoRoom event) = four 11 event 0 0
 numbersOf NotWritten = four 12 0 0 0
 
--- The same in a list, the code first.
+-- The same in a list, the code first. It serves an inner function: no promise of a public one cites it.
 abbrev pub codeFirst : Answer → List ℕ
 codeFirst a = numbersOf a .code ∷ numbersOf a .event ∷ numbersOf a .partner ∷ numbersOf a .peak ∷ []
 

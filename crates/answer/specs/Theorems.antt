@@ -12,7 +12,7 @@ use Rattle.answer.specs.Sheet.{sheetOf, numbersAt, isSheet, readOf, done
 
 -- The reader gives this answer for some bytes, and it is a verdict.
 abbrev pub Given : Answer → Type 0
-Given a = (s : List ℕ) × Bytes s × (readOf s ≡ a) × (a ≡ NoVerdict → ⊥)
+Given a = (s : List ℕ) × Bytes s × (readOf s ≡ a) × ¬ (a ≡ NoVerdict)
 
 -- A sheet's first k bytes, followed by zeros to 12.
 abbrev pub cut : ℕ → List ℕ → List ℕ
@@ -39,18 +39,18 @@ CutSheet =
 
 -- Fewer or more than 12 bytes read as no verdict.
 unfoldable pub OtherLengths : Type 0
-OtherLengths = (s : List ℕ) → (length s ≡ 12 → ⊥) → readOf s ≡ NoVerdict
+OtherLengths = (s : List ℕ) → ¬ (length s ≡ 12) → readOf s ≡ NoVerdict
 
 -- Bytes that read as an answer are the one sheet of that answer.
 unfoldable pub OneSheet : Type 0
-OneSheet = (s : List ℕ) (a : Answer) → Bytes s → readOf s ≡ a → (a ≡ NoVerdict → ⊥) → s ≡ sheetOf a
+OneSheet = (s : List ℕ) (a : Answer) → Bytes s → readOf s ≡ a → ¬ (a ≡ NoVerdict) → s ≡ sheetOf a
 
 -- The writer writes exactly where 12 bytes are lent and the reader gives the answer; else it answers 12.
 unfoldable pub WritesWhatIsGiven : Type 0
 WritesWhatIsGiven =
     (a : Answer) (out : List ℕ)
     → ((12 ≤ length out) × Given a → writeAnswer a out ≡ done)
-    × (((12 ≤ length out) × Given a → ⊥) → writeAnswer a out ≡ NotWritten)
+    × (¬ ((12 ≤ length out) × Given a) → writeAnswer a out ≡ NotWritten)
 
 -- The bytes past the twelfth stay, and a refusal leaves all.
 unfoldable pub KeepsTheRest : Type 0

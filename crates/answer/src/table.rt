@@ -5,7 +5,7 @@ ghost use mathlib.Core.Path.{_≡_};
 ghost use Rattle.answer.specs.Table.{namedBy, fitNamed, fit};
 
 // The numbers that a code names besides itself.
-pub enum Named {
+pub(crate) enum Named {
     // No sheet has the code.
     Unread,
     Nothing,

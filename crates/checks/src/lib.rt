@@ -2,20 +2,20 @@
 use answer::Answer;
 use event::Address;
 use event::Event;
-use event::Mode;
+use event::bytes_read;
 ghost use mathlib.Core.Path.{_≡_};
 ghost use mathlib.Core.Bool.{_||_};
 ghost use Prim.Native.Nat.{_+_};
 ghost use lib.Dec.{leb};
 ghost use Rattle.little_endian.specs.Number.{isZero};
-ghost use Rattle.decoder.specs.Encoding.{offsetOf};
-ghost use Rattle.rules.specs.Events.{memoryOf, bytesRead};
+ghost use Rattle.event.specs.Addresses.{offsetOf};
+ghost use Rattle.rules.specs.Events.{memoryOf};
 ghost use Rattle.rules.specs.Faults.{lengthOf, multipleOf, aligned, inRange};
 ghost use Rattle.checks.specs.Faults.{faultAlone};
 
 // The first of 7 to 9 that an event gets as event `number` of a list under these memory lengths; no verdict where it
 // gets none.
-pub fn fault_of(event: Event, number: u32, global: u32, shared: u32) -> Answer
+pub fn fault_alone(event: Event, number: u32, global: u32, shared: u32) -> Answer
     ensures { λ r. ⌜ r ≡ faultAlone (record { global = global; shared = shared }) number event ⌝ }
 {
     let is_allowed = event.allowed();
@@ -114,17 +114,6 @@ fn inside(start: u32, size: u32, length: u32) -> bool
         return false;
     }
     start <= length - size
-}
-
-// How many bytes of its source a copy reads.
-pub fn bytes_read(mode: Mode, cp_size: u32) -> u32
-    ensures { λ r. ⌜ r ≡ bytesRead mode «cp_size» ⌝ }
-{
-    match mode {
-        Mode::Plain => cp_size,
-        Mode::SourceSize(src_size) => src_size,
-        Mode::SourceIgnored => 0,
-    }
 }
 
 fn offset_of(address: Address) -> u32

@@ -5,26 +5,25 @@ use mathlib.Core.Path.{_≡_, refl}
 use mathlib.Core.Bool.{true, _&&_, _||_}
 use mathlib.Core.List.{List, [], _∷_, _++_}
 use lib.Dec.{leb, eqb}
-use lib.ListN.{getD}
+use borrow.Author.Tests.{le-leb}
 use Rattle.little_endian.specs.Number.{isZero, numberAt, bytesOf}
 use Rattle.little_endian.proofs.Widths.{there}
 use Rattle.event.specs.declared.Address.{Address}
 use Rattle.event.specs.declared.Address.the-variants.{Global, Shared}
 use Rattle.event.specs.declared.Cache.{Cache}
 use Rattle.event.specs.declared.Cache.the-variants.{Ca, Cg}
-use Rattle.event.specs.declared.ElementType.{ElementType}
-use Rattle.event.specs.declared.ElementType.the-variants.{B32, U32, S32}
 use Rattle.event.specs.declared.Event.{Event}
 use Rattle.event.specs.declared.Event.the-variants.{Load, Store, Copy, Commit, Wait, WaitAll, BulkCopy, BulkReduction, BulkCommit, BulkWait}
 use Rattle.decoder.specs.declared.Item.the-variants.{Decoded}
 use Rattle.event.specs.declared.Mode.{Mode}
 use Rattle.event.specs.declared.Mode.the-variants.{Plain, SourceSize, SourceIgnored}
-use Rattle.event.specs.declared.Operation.{Operation}
-use Rattle.event.specs.declared.Operation.the-variants.{And, Or, Xor, Add, Min, Max}
 use Rattle.event.specs.Fields.{valueBytes, operationNumber, typeNumber, allowed}
-use Rattle.decoder.specs.Bodies.{checked, addressIn, threadMeant, modeOf, cacheOf, operations, types}
+use Rattle.event.specs.Addresses.{offsetOf}
+use Rattle.event.proofs.Numbers.{few-operations, few-types}
+use Rattle.decoder.specs.Bodies.{checked, addressIn, threadMeant, modeOf, cacheOf}
 use Rattle.decoder.specs.Kinds.{ofLength, decodeOf}
-use Rattle.decoder.specs.Encoding.{modeNumber, srcSizeOf, cacheNumber, offsetOf, thread, threeFours, kindOf, bodyOf, Fits}
+use Rattle.decoder.specs.Encoding.{modeNumber, srcSizeOf, cacheNumber, thread, threeFours, kindOf, bodyOf, Fits}
+use Rattle.decoder.proofs.Numbers.{operation-back, type-back}
 
 -- An allowed event with a meaning for each byte is what its body says.
 decoded : (e : Event) → allowed e ≡ true → checked true e ≡ Decoded e
@@ -71,19 +70,6 @@ cache-meant : (cache : Cache) → leb (cacheNumber cache) 1 ≡ true
 cache-meant Ca = refl
 cache-meant Cg = refl
 
-operation-back : (operation : Operation) → (getD operations (operationNumber operation) And ≡ operation) × (leb (operationNumber operation) 5 ≡ true)
-operation-back And = (refl, refl)
-operation-back Or = (refl, refl)
-operation-back Xor = (refl, refl)
-operation-back Add = (refl, refl)
-operation-back Min = (refl, refl)
-operation-back Max = (refl, refl)
-
-type-back : (element : ElementType) → (getD types (typeNumber element) B32 ≡ element) × (leb (typeNumber element) 2 ≡ true)
-type-back B32 = (refl, refl)
-type-back U32 = (refl, refl)
-type-back S32 = (refl, refl)
-
 pub decodes : (e : Event) → Fits e → allowed e ≡ true → decodeOf (kindOf e) (bodyOf e) ≡ Decoded e
 unfolding decodeOf ofLength bodyOf bytesOf
 decodes (Load address size) fits h =
@@ -108,8 +94,8 @@ decodes (BulkCopy dst src size) fits h =
     rw (three .0, three .1, three .2) (decoded (BulkCopy dst src size) h)
 decodes (BulkReduction dst src size operation element) fits h =
     let three = three-back (dst .0) (src .0) size (operationNumber operation ∷ typeNumber element ∷ 0 ∷ 0 ∷ []) (fits .0) (fits .1) (fits .2) in
-    let op = operation-back operation in
-    let ty = type-back element in
-    rw (three .0, three .1, three .2, op .0, op .1, ty .0, ty .1) (decoded (BulkReduction dst src size operation element) h)
+    let known = le-leb (operationNumber operation) 5 (few-operations operation) in
+    let typed = le-leb (typeNumber element) 2 (few-types element) in
+    rw (three .0, three .1, three .2, operation-back operation, known, type-back element, typed) (decoded (BulkReduction dst src size operation element) h)
 decodes BulkCommit fits h = refl
 decodes (BulkWait n) fits h = rw (there 4 n [] [] fits)

@@ -19,10 +19,11 @@ use Rattle.event.specs.declared.Event.the-variants.{Load, Store, Copy, Commit, 
 use Rattle.decoder.specs.declared.Item.the-variants.{Decoded}
 use Rattle.event.specs.declared.Operation.the-variants.{And}
 use Rattle.event.specs.Fields.{operationNumber, typeNumber, allowed}
-use Rattle.decoder.specs.Bodies.{byteAt, global, shared, checked, addressIn, threadMeant, loadIn, storeIn, modeOf, cacheOf, copyMeant, copyIn, bulkCopyIn, operations, types, reductionMeant, bulkReductionIn, waitIn, bulkWaitIn}
+use Rattle.event.specs.Addresses.{global, shared, offsetOf}
+use Rattle.decoder.specs.Bodies.{byteAt, checked, addressIn, threadMeant, loadIn, storeIn, modeOf, cacheOf, copyMeant, copyIn, bulkCopyIn, operations, types, reductionMeant, bulkReductionIn, waitIn, bulkWaitIn}
 use Rattle.decoder.specs.Kinds.{Row, kindsOf01, ofLength, decodeBy, decodeOf, isDecoded}
 use Rattle.decoder.proofs.Rows.{Every, none, and}
-use Rattle.decoder.specs.Encoding.{spaceOf, offsetOf, modeNumber, srcSizeOf, cacheNumber, thread, threeFours, kindOf, bodyOf, Fits}
+use Rattle.decoder.specs.Encoding.{spaceOf, modeNumber, srcSizeOf, cacheNumber, thread, threeFours, kindOf, bodyOf, Fits}
 
 -- What an event owes to the bytes that it was decoded from.
 abbrev Said : ℕ → List ℕ → Event → Type 0

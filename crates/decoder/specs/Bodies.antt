@@ -1,4 +1,4 @@
--- The bodies of document 01's kinds: what the bytes of each mean, and the bytes that an event has.
+-- The bodies of document 01's kinds: what the bytes of each mean.
 use Prim.Native.Nat.{ℕ}
 use mathlib.Core.Bool.{Bool, true, _&&_, _||_, cond}
 use mathlib.Core.List.{List, [], _∷_}
@@ -13,24 +13,17 @@ use Rattle.event.specs.declared.ElementType.{ElementType}
 use Rattle.event.specs.declared.ElementType.the-variants.{B32, U32, S32}
 use Rattle.event.specs.declared.Event.{Event}
 use Rattle.event.specs.declared.Event.the-variants.{Load, Store, Copy, Wait, BulkCopy, BulkReduction, BulkWait}
-use Rattle.event.specs.declared.GlobalAddress.{GlobalAddress}
 use Rattle.decoder.specs.declared.Item.{Item}
 use Rattle.decoder.specs.declared.Item.the-variants.{Decoded, FieldNotAllowed}
 use Rattle.event.specs.declared.Mode.{Mode}
 use Rattle.event.specs.declared.Mode.the-variants.{Plain, SourceSize, SourceIgnored}
 use Rattle.event.specs.declared.Operation.{Operation}
 use Rattle.event.specs.declared.Operation.the-variants.{And, Or, Xor, Add, Min, Max}
-use Rattle.event.specs.declared.SharedAddress.{SharedAddress}
 use Rattle.event.specs.Fields.{allowed}
+use Rattle.event.specs.Addresses.{global, shared}
 
 abbrev pub byteAt : List ℕ → ℕ → ℕ
 byteAt body i = getD body i 0
-
-abbrev pub global : ℕ → GlobalAddress
-global n = record { 0 = n }
-
-abbrev pub shared : ℕ → SharedAddress
-shared n = record { 0 = n }
 
 -- The event of a body whose every byte has a meaning, where its fields are allowed.
 unfoldable pub checked : Bool → Event → Item

@@ -11,6 +11,7 @@ use Rattle.event.specs.declared.Event.the-variants.{Load, Store, Copy, Commit, 
 use Rattle.event.specs.declared.Mode.{Mode}
 use Rattle.event.specs.declared.Mode.the-variants.{Plain, SourceSize, SourceIgnored}
 use Rattle.event.specs.Fields.{valueBytes, operationNumber, typeNumber}
+use Rattle.event.specs.Addresses.{offsetOf}
 
 abbrev pub kindOf : Event → ℕ
 kindOf (Load address size) = 1
@@ -28,10 +29,6 @@ kindOf (BulkWait n) = 35
 abbrev pub spaceOf : Address → ℕ
 spaceOf (Global at) = 0
 spaceOf (Shared at) = 1
-
-abbrev pub offsetOf : Address → ℕ
-offsetOf (Global at) = at .0
-offsetOf (Shared at) = at .0
 
 -- Mode 0 plain, 1 src-size given, 2 source ignored; in modes 0 and 2 the src-size field is zero.
 abbrev pub modeNumber : Mode → ℕ

@@ -1,6 +1,8 @@
 // What a trace records: the thread's accesses, the copies and reductions, the commits and waits (document 01).
+mod copies;
 mod fields;
 
+pub use copies::bytes_read;
 pub use fields::operation_number;
 pub use fields::type_number;
 

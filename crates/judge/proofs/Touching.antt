@@ -28,7 +28,7 @@ use Rattle.parts.specs.declared.GroupsMade.{GroupsMade}
 use Rattle.parts.specs.declared.Part.{Part}
 use Rattle.parts.specs.declared.Part.the-variants as part
 use Rattle.parts.specs.Parts.{partOf}
-use Rattle.parts.proofs.Numbers.{few-operations}
+use Rattle.event.proofs.Numbers.{few-operations}
 use Rattle.rules.specs.Search.{anyIn}
 use Rattle.rules.specs.Events.{effectOf, accesses}
 use Rattle.rules.specs.Tests.{sameSpace, meet, someMeet, reductionWith, sameReduction, mayShare, collide}

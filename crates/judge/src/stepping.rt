@@ -4,7 +4,7 @@ use crate::State;
 use crate::answering::is_no_verdict;
 use answer::Answer;
 use answer::EVENT_LIMIT;
-use checks::fault_of;
+use checks::fault_alone;
 use decoder::Item;
 use event::Event;
 use operations::Partner;
@@ -49,7 +49,7 @@ impl State {
         let Item::Decoded(event) = item else {
             return self.refused(item.refusal(self.events));
         };
-        let fault = fault_of(event, self.events, self.global, self.shared);
+        let fault = fault_alone(event, self.events, self.global, self.shared);
         if !is_no_verdict(fault) {
             return self.refused(fault);
         }

@@ -4,15 +4,15 @@ use Prim.Native.Nat.{ℕ, _+_, _-_, _%_, _≤_, _<_}
 use native.Mathlib.Nat.{add-zero}
 use native.Mathlib.Omega.{arith}
 use mathlib.Core.Path.{_≡_, refl, sym, ap, ap₂, _∙_}
-use mathlib.Core.Bool.{true, not, _||_}
+use mathlib.Core.Bool.{true}
 use mathlib.Core.Logic.{⊎-elim}
 use mathlib.Core.List.{List, [], _∷_}
 use denote.Enum.Declared.{tagOf}
 use types.Run.{OneOf, miss}
 use borrow.Rule.Slice.PartMut.{putMid}
 use lib.ListN.{length}
-use lib.Dec.{eqb, leb}
-use borrow.Author.Tests.{eqb-true, eqb-false, leb-true, not-true}
+use lib.Dec.{leb}
+use borrow.Author.Tests.{eqb-true, leb-true}
 use Rattle.little_endian.specs.Number.{isZero}
 use Rattle.little_endian.proofs.Tests.{both, all-three, or-cases}
 use Rattle.event.proofs.Event.{the-type}
@@ -24,16 +24,18 @@ use Rattle.event.specs.declared.Event.{Event}
 use Rattle.event.specs.declared.Event.the-variants.{Load, Store, Copy, Commit, Wait, WaitAll, BulkCopy, BulkReduction, BulkCommit, BulkWait}
 use Rattle.event.specs.declared.GlobalAddress.{GlobalAddress}
 use Rattle.event.specs.declared.Mode.{Mode}
-use Rattle.event.specs.declared.Mode.the-variants.{Plain, SourceSize, SourceIgnored}
 use Rattle.event.specs.declared.Operation.{Operation}
 use Rattle.event.specs.declared.SharedAddress.{SharedAddress}
 use Rattle.event.specs.Fields.{isThreadSize, isCopySize, isBulkSize, isValue, isMode, isCache, isPair, allowed}
-use Rattle.decoder.specs.Encoding.{offsetOf}
+use Rattle.event.specs.Copies.{bytesRead}
+use Rattle.event.specs.Addresses.{offsetOf}
+use Rattle.event.proofs.Sizes.{copy-size, thread-size, bulk-size, reads-less}
 use Rattle.effect.specs.Memory.{Global, Shared, initial, read, write, get}
 use Rattle.effect.specs.Access.{Access, reading, writing}
-use Rattle.rules.specs.Events.{memoryOf, bytesRead, accesses}
+use Rattle.rules.specs.Events.{memoryOf, accesses}
 use Rattle.rules.specs.Faults.{Lengths, lengthOf, aligned, inside, allInside, inRange, faultless}
-use Rattle.moves.specs.Acting.{loadSize, Memories, moved, memories, alone, acted}
+use Rattle.rules.specs.Outcomes.{loadSize}
+use Rattle.moves.specs.Acting.{Memories, moved, memories, alone, acted}
 use Rattle.moves.proofs.Parts.{length-read, part-back}
 
 -- ---- an event without fault keeps to the memories
@@ -58,39 +60,6 @@ module _ (lengths : Lengths) where
   unfolding inRange
   parts e h = let p = all-three (allowed e) (aligned e) (inRange lengths e) h in (p .0, p .2)
 
-  module _ (size : ℕ) where
-    -- each of the sizes lies between these
-    one-of : (low high k : ℕ) → low ≤ k → k ≤ high → eqb size k ≡ true → (low ≤ size) × (size ≤ high)
-    one-of low high k from to e = let is = eqb-true size k e in (omega arith, omega arith)
-
-    copy-size : isCopySize size ≡ true → (4 ≤ size) × (size ≤ 16)
-    copy-size h =
-        ⊎-elim
-        (λ p. ⊎-elim (one-of 4 16 4 (omega arith) (omega arith)) (one-of 4 16 8 (omega arith) (omega arith)) (or-cases (eqb size 4) (eqb size 8) p))
-        (one-of 4 16 16 (omega arith) (omega arith))
-        (or-cases (eqb size 4 || eqb size 8) (eqb size 16) h)
-
-    thread-size : isThreadSize size ≡ true → (1 ≤ size) × (size ≤ 16)
-    thread-size h =
-        ⊎-elim
-        (λ p. ⊎-elim
-        (λ q. ⊎-elim
-        (λ r. ⊎-elim (one-of 1 16 1 (omega arith) (omega arith)) (one-of 1 16 2 (omega arith) (omega arith)) (or-cases (eqb size 1) (eqb size 2) r))
-        (one-of 1 16 4 (omega arith) (omega arith))
-        (or-cases (eqb size 1 || eqb size 2) (eqb size 4) q))
-        (one-of 1 16 8 (omega arith) (omega arith))
-        (or-cases (eqb size 1 || eqb size 2 || eqb size 4) (eqb size 8) p))
-        (one-of 1 16 16 (omega arith) (omega arith))
-        (or-cases (eqb size 1 || eqb size 2 || eqb size 4 || eqb size 8) (eqb size 16) h)
-
-    bulk-size : isBulkSize size ≡ true → (0 < size) × (size % 4 ≡ 0)
-    bulk-size h =
-        let p = both (not (isZero size)) (isZero (size % 16)) h in
-        let ne = eqb-false size 0 (not-true (isZero size) (p .0)) in
-        let whole = eqb-true (size % 16) 0 (p .1) in
-        let positive : ¬ (size ≡ 0) = ne in
-        (omega arith, omega arith)
-
   pub load-fits : (at : Address) (size : ℕ) → faultless lengths (Load at size) ≡ true
       → offsetOf at + size ≤ lengthOf lengths (memoryOf at)
   unfolding allowed
@@ -105,12 +74,6 @@ module _ (lengths : Lengths) where
       let p = parts (Store at size low high) h in
       let sized = thread-size size (both (isThreadSize size) (isValue size low high) (p .0) .0) in
       (first-ends (writing (memoryOf at) (offsetOf at) size) [] (p .1) (sized .0), sized .1)
-
-  -- no more is read than is written
-  reads-less : (mode : Mode) (cpSize : ℕ) → isMode mode cpSize ≡ true → bytesRead mode cpSize ≤ cpSize
-  reads-less Plain cpSize h = omega arith
-  reads-less (SourceSize srcSize) cpSize h = leb-true srcSize cpSize h
-  reads-less SourceIgnored cpSize h = omega arith
 
   pub copy-fits : (dst : SharedAddress) (src : GlobalAddress) (cpSize : ℕ) (mode : Mode) (cache : Cache)
       → faultless lengths (Copy dst src cpSize mode cache) ≡ true

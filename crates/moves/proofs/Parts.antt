@@ -55,7 +55,7 @@ copy-back m source copied at fits e =
     part-back m copied at (length source) fits (ap length all) ∙ ap (write m at) all
 
 -- bytes not read are zero
-pub padded-is : (bytes : List ℕ) (rest size : ℕ) → length bytes + rest ≡ size → bytes ++ replicate rest 0 ≡ padded size bytes
+padded-is : (bytes : List ℕ) (rest size : ℕ) → length bytes + rest ≡ size → bytes ++ replicate rest 0 ≡ padded size bytes
 padded-is bytes rest size e =
     sym (rw (
       ← e,

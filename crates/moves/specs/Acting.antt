@@ -3,23 +3,9 @@ use Prim.Native.Nat.{ℕ, _+_}
 use mathlib.Core.List.{List, []}
 use lib.ListN.{length, getD}
 use Rattle.event.specs.declared.Event.{Event}
-use Rattle.event.specs.declared.Event.the-variants.{Load, Store, Copy, Commit, Wait, WaitAll, BulkCopy, BulkReduction, BulkCommit, BulkWait}
 use Rattle.effect.specs.Memory.{State, initial, write}
 use Rattle.effect.specs.Effect.{does}
 use Rattle.rules.specs.Events.{effectOf}
-
--- The bytes that an event loads.
-abbrev pub loadSize : Event → ℕ
-loadSize (Load address size) = size
-loadSize (Store address size low high) = 0
-loadSize (Copy dst src cpSize mode cache) = 0
-loadSize Commit = 0
-loadSize (Wait n) = 0
-loadSize WaitAll = 0
-loadSize (BulkCopy dst src size) = 0
-loadSize (BulkReduction dst src size operation element) = 0
-loadSize BulkCommit = 0
-loadSize (BulkWait n) = 0
 
 -- The two memories, and the load record with the bytes before `filled` in use.
 pub record Memories : Type 0 where

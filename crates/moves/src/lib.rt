@@ -4,14 +4,15 @@ mod copies;
 mod memory;
 mod thread;
 
-use checks::bytes_read;
 use event::Event;
+use event::bytes_read;
 ghost use mathlib.Core.Path.{_≡_};
 ghost use mathlib.Core.Bool.{true};
 ghost use Prim.Native.Nat.{_+_, _≤_};
 ghost use lib.ListN.{length};
 ghost use Rattle.rules.specs.Faults.{faultless};
-ghost use Rattle.moves.specs.Acting.{loadSize, moved, memories, acted};
+ghost use Rattle.rules.specs.Outcomes.{loadSize};
+ghost use Rattle.moves.specs.Acting.{moved, memories, acted};
 
 // An event without fault acts, on memories of the lengths that it was judged by. Its load goes to index `filled` of the
 // record; the index past it is returned.

@@ -1,5 +1,4 @@
-// Parts of the two memories. An address counts in one memory, and its number is taken out of it here alone, to index that
-// one.
+// Parts of the two memories. An address counts in one memory, and its number is taken out of it only to index that one.
 use event::GlobalAddress;
 use event::SharedAddress;
 ghost use mathlib.Core.Path.{_≡_};

@@ -8,7 +8,7 @@ ghost use mathlib.Core.Path.{_≡_};
 ghost use Prim.Native.Nat.{_+_, _≤_};
 ghost use lib.ListN.{length, take};
 ghost use Rattle.event.specs.Fields.{valueBytes};
-ghost use Rattle.decoder.specs.Encoding.{offsetOf};
+ghost use Rattle.event.specs.Addresses.{offsetOf};
 ghost use Rattle.effect.specs.Memory.{get, put, initial};
 ghost use Rattle.rules.specs.Events.{memoryOf};
 ghost use Rattle.rules.specs.Faults.{lengthOf};

@@ -10,11 +10,11 @@ use lib.Dec.{ltb}
 use borrow.Author.Tests.{ltb-true, lt-ltb, eq-eqb, ne-eqb}
 use Rattle.operations.specs.declared.Range.{Range}
 use Rattle.operations.specs.declared.Record.{Record}
-use Rattle.operations.specs.Tag.{writtenIn, mayShare}
+use Rattle.operations.specs.Tag.{writtenIn, tagsMayShare}
 use Rattle.operations.specs.Clash.{ShareByte, shareByte, clashOf}
 
 -- a byte that both have is at or past both starts and before both ends
-pub shared-byte : (a b : Range) → a .start < b .start + b .length → b .start < a .start + a .length
+shared-byte : (a b : Range) → a .start < b .start + b .length → b .start < a .start + a .length
     → 0 < a .length → 0 < b .length → ShareByte a b
 shared-byte a b p q s t = record {
   byte = max (a .start) (b .start);
@@ -57,11 +57,11 @@ same-test false a b (there, back) = sym (eq-false-of-not-eq-true (λ e. false≢
 
 -- ---- what the clash of two records comes down to
 module _ (event operation : Record) where
-  pub clash-shared : mayShare (event .tag) (operation .tag) ≡ true → clashOf event operation ≡ false
+  pub clash-shared : tagsMayShare (event .tag) (operation .tag) ≡ true → clashOf event operation ≡ false
   unfolding clashOf
   clash-shared h = rw h
 
-  module _ (alone : mayShare (event .tag) (operation .tag) ≡ false) where
+  module _ (alone : tagsMayShare (event .tag) (operation .tag) ≡ false) where
     pub clash-same : writtenIn (event .tag) ≡ writtenIn (operation .tag)
         → clashOf event operation ≡ shareByte (event .writes) (operation .writes)
     unfolding clashOf

@@ -61,7 +61,7 @@ module _ (words : Record → List ℕ) (four : (r : Record) → length (words r)
       ap (λ l. allWords words rs ++ l) (drop-at (allWords words rs) (drop (4 * length rs) place) (4 * length rs) (length-all rs))
 
   -- the words of a record
-  pub word-in : (rs : List Record) (place : List ℕ) (k j : ℕ) (d : Record) → k < length rs → j < 4
+  word-in : (rs : List Record) (place : List ℕ) (k j : ℕ) (d : Record) → k < length rs → j < 4
       → getD (allWords words rs ++ place) (4 * k + j) 0 ≡ getD (words (getD rs k d)) j 0
   word-in [] place k j d h l = absurd (omega arith)
   word-in (r ∷ rs) place zero j d h l =

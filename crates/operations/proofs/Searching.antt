@@ -30,7 +30,7 @@ first-append event (r ∷ rs) ss = rw (first-append event rs ss) (by-test (clash
     by-test false = refl
 
 -- More records stand behind the first.
-pub more-records : (ranges marks : List ℕ) (n d : ℕ)
+more-records : (ranges marks : List ℕ) (n d : ℕ)
     → (rest : List Record) × (records (n + d) ranges marks ≡ records n ranges marks ++ rest)
 unfolding records
 more-records ranges marks n zero = ([], rw (add-zero, append-nil))

@@ -7,7 +7,7 @@ use Rattle.operations.specs.declared.Partner.{Partner}
 use Rattle.operations.specs.declared.Partner.the-variants.{Event, Nobody}
 use Rattle.operations.specs.declared.Range.{Range}
 use Rattle.operations.specs.declared.Record.{Record}
-use Rattle.operations.specs.Tag.{writtenIn, mayShare}
+use Rattle.operations.specs.Tag.{writtenIn, tagsMayShare}
 
 -- A byte is in a range.
 pub record Has (a : Range) (byte : ℕ) : Type 0 where
@@ -28,7 +28,7 @@ shareByte a b = ltb (max (a .start) (b .start)) (min (a .start + a .length) (b .
 -- one writes and the other reads.
 unfoldable pub clashOf : Record → Record → Bool
 clashOf event operation =
-    not (mayShare (event .tag) (operation .tag))
+    not (tagsMayShare (event .tag) (operation .tag))
     && cond (eqb (writtenIn (event .tag)) (writtenIn (operation .tag)))
     (shareByte (event .writes) (operation .writes))
     (shareByte (event .writes) (operation .reads) || shareByte (event .reads) (operation .writes))

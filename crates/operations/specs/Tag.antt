@@ -18,5 +18,5 @@ abbrev pub reductionIn : ℕ → ℕ
 reductionIn tag = tag / 256
 
 -- Two reductions of one operation and one type.
-abbrev pub mayShare : ℕ → ℕ → Bool
-mayShare tag other = not (eqb (reductionIn tag) 0) && eqb (reductionIn tag) (reductionIn other)
+abbrev pub tagsMayShare : ℕ → ℕ → Bool
+tagsMayShare tag other = not (eqb (reductionIn tag) 0) && eqb (reductionIn tag) (reductionIn other)

@@ -26,7 +26,7 @@ pub struct Record {
 }
 
 // What two records have to do with each other.
-pub struct Sharing {
+pub(crate) struct Sharing {
     pub clash: bool,
 }
 

@@ -9,10 +9,10 @@ use Rattle.event.specs.declared.GlobalAddress.{GlobalAddress}
 use Rattle.event.specs.declared.Operation.{Operation}
 use Rattle.event.specs.declared.SharedAddress.{SharedAddress}
 use Rattle.event.specs.Fields.{operationNumber, typeNumber}
+use Rattle.event.specs.Copies.{bytesRead}
 use Rattle.operations.specs.declared.Range.{Range}
 use Rattle.operations.specs.declared.Wait.{Wait}
 use Rattle.operations.specs.Tag.{tagOf}
-use Rattle.rules.specs.Events.{bytesRead}
 use Rattle.parts.specs.declared.GroupsMade.{GroupsMade}
 use Rattle.parts.specs.declared.Part.{Part}
 use Rattle.parts.specs.declared.Part.the-variants as part

@@ -1,11 +1,11 @@
 // What an event is to the table of open operations.
-use checks::bytes_read;
 use event::Address;
 use event::ElementType;
 use event::Event;
 use event::GlobalAddress;
 use event::Operation;
 use event::SharedAddress;
+use event::bytes_read;
 use event::operation_number;
 use event::type_number;
 use operations::Range;

@@ -1,8 +1,6 @@
 // One element combined with another.
 use event::Operation;
 ghost use mathlib.Core.Path.{_≡_};
-ghost use mathlib.Core.Bool.{cond};
-ghost use lib.Dec.{ltb};
 ghost use Rattle.effect.specs.Element.{rank, combined};
 
 // Destination combined with source.

@@ -24,7 +24,7 @@ use Rattle.rules.proofs.Orders.{OpenUpTo, open-not-precedes, operation-
 use Rattle.rules.proofs.Meeting.{SomeMeet, some-meet-tells, may-share-tells, may-share-sym}
 
 -- ---- an operation is open
-pub open-tells : (es : List Event) (j i : ℕ)
+open-tells : (es : List Event) (j i : ℕ)
     → Tells (isOpen es (suc j) i) ((isOperation (eventAt es i) ≡ true) × OpenUpTo es j i)
 unfolding isOpen
 open-tells es j i = and-tells (isOperation (eventAt es i)) (not (anyBelow (closedBy es i) (suc j))) (itself _)

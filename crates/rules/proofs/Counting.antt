@@ -230,19 +230,19 @@ module _ (es : List Event) (i w : ℕ) where
   in-closed NonBulk m = or-left _ (isIn i (closedIn Bulk es w)) (is-in-tells i (closedIn NonBulk es w) .1 m)
   in-closed Bulk m = or-right (isIn i (closedIn NonBulk es w)) _ (is-in-tells i (closedIn Bulk es w) .1 m)
 
-  pub closed-closes : closedBy es i w ≡ true → Closes es i w
+  closed-closes : closedBy es i w ≡ true → Closes es i w
   unfolding closedBy
   closed-closes h = ⊎-elim
       (λ k. closed-in NonBulk (role NonBulk (eventAt es w)) refl (is-in-tells i (closedIn NonBulk es w) .0 k))
       (λ k. closed-in Bulk (role Bulk (eventAt es w)) refl (is-in-tells i (closedIn Bulk es w) .0 k))
       (or-cases (isIn i (closedIn NonBulk es w)) (isIn i (closedIn Bulk es w)) h)
 
-  pub closes-closed : Closes es i w → closedBy es i w ≡ true
+  closes-closed : Closes es i w → closedBy es i w ≡ true
   closes-closed (by-wait chain n e c) = in-closed chain (rw e (made-in chain es w n i c))
   closes-closed (by-wait-all chain e op l) =
       in-closed chain (rw e (made-or-uncommitted chain es w i (made-in chain es w 0 i) op l))
 
-  -- closing by groups is closing by counting
+  -- closing by groups is counting: more than N commits of the chain stand between the operation and the wait
   pub closing-by-counting : (closedBy es i w ≡ true) ↔ Closes es i w
   closing-by-counting = (closed-closes, closes-closed)
 

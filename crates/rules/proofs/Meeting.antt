@@ -11,11 +11,12 @@ use lib.Dec.{eqb, ltb}
 use borrow.Author.Tests.{ltb-true, lt-ltb, eqb-true, eq-eqb}
 use Rattle.little_endian.proofs.Tests.{Tells, and-tells, or-tells, itself}
 use Rattle.event.specs.declared.ElementType.{ElementType}
-use Rattle.event.specs.declared.ElementType.the-variants.{B32, U32, S32}
+use Rattle.event.specs.declared.ElementType.the-variants.{B32}
 use Rattle.event.specs.declared.Operation.{Operation}
-use Rattle.event.specs.declared.Operation.the-variants.{And, Or, Xor, Add, Min, Max}
+use Rattle.event.specs.declared.Operation.the-variants.{And}
 use Rattle.event.specs.Fields.{operationNumber, typeNumber}
 use Rattle.decoder.specs.Bodies.{operations, types}
+use Rattle.decoder.proofs.Numbers.{operation-back, type-back}
 use Rattle.effect.specs.Memory.{Space, Global, Shared}
 use Rattle.effect.specs.Access.{Access, Meet}
 use Rattle.effect.specs.Effect.{Effect, nothing, load, store, copy, bulkCopy, bulkReduction, MayShare, alike}
@@ -30,7 +31,7 @@ space-tells Global Shared = (λ e. absurd (false≢true e), λ e. ap (sameSpace 
 space-tells Shared Global = (λ e. absurd (false≢true e), λ e. ap (sameSpace Shared) (sym e))
 space-tells Shared Shared = (λ e. refl, λ e. refl)
 
-pub meet-tells : (x y : Access) → Tells (meet x y) (Meet x y)
+meet-tells : (x y : Access) → Tells (meet x y) (Meet x y)
 meet-tells x y = Iff·trans
     (and-tells (shareByte x y) (x .writes || y .writes)
     (and-tells (sameSpace (x .space) (y .space)) (ltb low high) (space-tells (x .space) (y .space))
@@ -65,19 +66,6 @@ some-meet-tells xs ys =
     any-tells (λ x. anyIn (meet x) ys) (λ x. Some (Meet x) ys) (λ x. any-tells (meet x) (Meet x) (meet-tells x) ys) xs
 
 -- ---- two reductions may share
-operation-back : (o : Operation) → getD operations (operationNumber o) And ≡ o
-operation-back And = refl
-operation-back Or = refl
-operation-back Xor = refl
-operation-back Add = refl
-operation-back Min = refl
-operation-back Max = refl
-
-type-back : (t : ElementType) → getD types (typeNumber t) B32 ≡ t
-type-back B32 = refl
-type-back U32 = refl
-type-back S32 = refl
-
 -- the numbers tell the operations and the types apart
 same-operation : (o o′ : Operation) → operationNumber o ≡ operationNumber o′ → o ≡ o′
 same-operation o o′ e = sym (operation-back o) ∙ ap (λ n. getD operations n And) e ∙ operation-back o′

@@ -20,7 +20,7 @@ use Rattle.rules.specs.Closing.{Chain, NonBulk, Bulk, Role, operation, c
 use Rattle.rules.specs.Peak.{openAfter, peak}
 use Rattle.rules.specs.Tests.{mayShare, someMeet, collide, clashes}
 use Rattle.rules.proofs.Search.{any-same, some-below}
-use Rattle.rules.proofs.Counting.{makes, commits, Closes, by-wait, by-wait-all, closed-closes, closes-closed, closes-earlier}
+use Rattle.rules.proofs.Counting.{makes, commits, Closes, by-wait, by-wait-all, closing-by-counting, closes-earlier}
 use Rattle.rules.proofs.Prefix.{Agree, closed-same, open-same, agree-append}
 
 -- ---- groups made are groups counted
@@ -160,8 +160,8 @@ module _ (before : List Event) (e : Event) where
   closed-next chain i l op =
       let op′ : role chain (eventAt longer i) ≡ operation = rw (old i l) op in
       let h : closedBy longer i n ≡ closesNow (role chain (eventAt longer n)) (commits chain longer i) (commits chain longer n) =
-      equal-tests _ _ (λ c. counted chain i op′ (closed-closes longer i n c))
-      (λ c. closes-closed longer i n (by-role chain i (role chain (eventAt longer n)) refl l op′ c)) in
+      equal-tests _ _ (λ c. counted chain i op′ (closing-by-counting longer i n .0 c))
+      (λ c. closing-by-counting longer i n .1 (by-role chain i (role chain (eventAt longer n)) refl l op′ c)) in
       rw (new, commits-old chain i (omega arith), commits-old chain n (omega arith)) at h
 
   -- ---- open operations
@@ -184,7 +184,7 @@ module _ (before : List Event) (e : Event) where
       never : anyBelow (closedBy longer n) (suc n) ≡ false
       never = eq-false-of-not-eq-true (λ h.
           let (w, l, c) = some-below (closedBy longer n) (suc n) h in
-          omega (arith, closes-earlier (closed-closes longer n w c)))
+          omega (arith, closes-earlier (closing-by-counting longer n w .0 c)))
 
   -- ---- the clash of the new event: with the operations that were open before it
   pub clashes-next : (i : ℕ) → i < n → clashes longer i n ≡ (isOpen before n i && collide (eventAt before i) e)
@@ -208,7 +208,7 @@ module _ (before : List Event) (e : Event) where
           → (isOpen before n i && not t && collide (eventAt before i) e) ≡ (isOpen before n i && collide (eventAt before i) e)
       by-closing true h =
           none (isOpen before n i) (collide (eventAt before i) e) (collide (eventAt before i) e)
-          (no-clash (no-access (closed-closes longer i n h)))
+          (no-clash (no-access (closing-by-counting longer i n .0 h)))
       by-closing false h = ap (λ s. s && collide (eventAt before i) e) (and-true (isOpen before n i))
 
   -- ---- peak

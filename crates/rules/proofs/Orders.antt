@@ -20,7 +20,7 @@ use Rattle.rules.specs.Search.{anyBelow}
 use Rattle.rules.specs.Closing.{closedBy, isOperation}
 use Rattle.rules.specs.Orders.{Action, turn, act, actionsOf, Must, in-turn, started, closed, PermittedOrder, CanComeEitherWay}
 use Rattle.rules.proofs.Search.{some-below, any-below}
-use Rattle.rules.proofs.Counting.{closed-closes, closes-earlier}
+use Rattle.rules.proofs.Counting.{closing-by-counting, closes-earlier}
 use Rattle.rules.proofs.Actions.{action-discrete, event, rank, rank-event, turn-rank, in-actions, is-in-actions, actions-rank, rank-before}
 
 module _ (es : List Event) where
@@ -34,8 +34,8 @@ module _ (es : List Event) where
   precedes (turn i) (act j) = leb i j
   precedes (act i) x = anyBelow (closedBy es i) (suc (event x))
 
-  pub closed-earlier : (i w : ℕ) → closedBy es i w ≡ true → i < w
-  closed-earlier i w h = closes-earlier (closed-closes es i w h)
+  closed-earlier : (i w : ℕ) → closedBy es i w ≡ true → i < w
+  closed-earlier i w h = closes-earlier (closing-by-counting es i w .0 h)
 
   -- an operation precedes x just if it is not open up to x
   pub open-not-precedes : (i j : ℕ) → (anyBelow (closedBy es i) (suc j) ≡ false) ↔ OpenUpTo j i

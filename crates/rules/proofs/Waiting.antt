@@ -22,7 +22,7 @@ use Rattle.rules.specs.Clashes.{EventsClash, Clean}
 use Rattle.rules.specs.Outcomes.{loadOf, loadsOf}
 use Rattle.rules.specs.Waited.{MayAdd, Lowered, same, Waited, done, keep, add}
 use Rattle.rules.specs.Waited as waited
-use Rattle.rules.proofs.Counting.{makes, commits, Closes, by-wait, by-wait-all, closed-closes, closes-closed}
+use Rattle.rules.proofs.Counting.{makes, commits, Closes, by-wait, by-wait-all, closing-by-counting}
 use Rattle.rules.proofs.Orders.{OpenUpTo}
 use Rattle.rules.proofs.Clashes.{moments-free, clash-sym, clash-events}
 use Rattle.rules.specs.Right.{WellFormed}
@@ -189,7 +189,7 @@ module _ {es es′ : List Event} (r : Waited es es′) where
       (lowered-role chain operation (place-event r i (omega arith)) op (λ b. b)) (place-up r i w lt)
 
   closed-kept : (i w : ℕ) → w < length es → closedBy es i w ≡ true → closedBy es′ (place r i) (place r w) ≡ true
-  closed-kept i w l h = closes-closed es′ (place r i) (place r w) (closes-kept i w l (closed-closes es i w h))
+  closed-kept i w l h = closing-by-counting es′ (place r i) (place r w) .1 (closes-kept i w l (closing-by-counting es i w .0 h))
 
   open-back : (i j : ℕ) → j < length es → OpenUpTo es′ (place r j) (place r i) → OpenUpTo es j i
   open-back i j l free w le =

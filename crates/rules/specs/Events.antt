@@ -6,10 +6,9 @@ use Rattle.event.specs.declared.Address.{Address}
 use Rattle.event.specs.declared.Address.the-variants as address
 use Rattle.event.specs.declared.Event.{Event}
 use Rattle.event.specs.declared.Event.the-variants.{Load, Store, Copy, Commit, Wait, WaitAll, BulkCopy, BulkReduction, BulkCommit, BulkWait}
-use Rattle.event.specs.declared.Mode.{Mode}
-use Rattle.event.specs.declared.Mode.the-variants.{Plain, SourceSize, SourceIgnored}
 use Rattle.event.specs.Fields.{valueBytes}
-use Rattle.decoder.specs.Encoding.{offsetOf}
+use Rattle.event.specs.Copies.{bytesRead}
+use Rattle.event.specs.Addresses.{offsetOf}
 use Rattle.effect.specs.Memory.{Space, Global, Shared}
 use Rattle.effect.specs.Access.{Access}
 use Rattle.effect.specs.Effect.{Effect, nothing, load, store, copy, bulkCopy, bulkReduction, accessesOf}
@@ -17,12 +16,6 @@ use Rattle.effect.specs.Effect.{Effect, nothing, load, store, copy, bulkCopy, b
 abbrev pub memoryOf : Address → Space
 memoryOf (address.Global at) = Global
 memoryOf (address.Shared at) = Shared
-
--- A copy reads its first cp-size bytes of source (mode 0), src-size bytes (mode 1) or none (mode 2).
-abbrev pub bytesRead : Mode → ℕ → ℕ
-bytesRead Plain cpSize = cpSize
-bytesRead (SourceSize srcSize) cpSize = srcSize
-bytesRead SourceIgnored cpSize = 0
 
 abbrev pub effectOf : Event → Effect
 effectOf (Load address size) = load (memoryOf address) (offsetOf address) size

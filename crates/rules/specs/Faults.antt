@@ -10,9 +10,9 @@ use Rattle.answer.specs.declared.Answer.the-variants as answer
 use Rattle.event.specs.declared.Event.{Event}
 use Rattle.event.specs.declared.Event.the-variants.{Load, Store, Copy, Commit, Wait, WaitAll, BulkCopy, BulkReduction, BulkCommit, BulkWait}
 use Rattle.event.specs.Fields.{allowed}
+use Rattle.event.specs.Addresses.{offsetOf}
 use Rattle.decoder.specs.declared.Item.{Item}
 use Rattle.decoder.specs.declared.Item.the-variants.{Decoded, UnknownKind, WrongBodyLength, FieldNotAllowed}
-use Rattle.decoder.specs.Encoding.{offsetOf}
 use Rattle.decoder.specs.Kinds.{refusalOf}
 use Rattle.trace.specs.File.{isMemoryLength}
 use Rattle.effect.specs.Memory.{Space, Global, Shared}

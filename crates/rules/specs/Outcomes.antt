@@ -17,6 +17,19 @@ abbrev pub exec : List Event → Action → State → State
 exec es (turn i) s = cond (isOperation (eventAt es i)) s (does i (effectOf (eventAt es i)) s)
 exec es (act i) s = does i (effectOf (eventAt es i)) s
 
+-- How many bytes a load reads; an event that is no load reads none.
+abbrev pub loadSize : Event → ℕ
+loadSize (Load address size) = size
+loadSize (Store address size low high) = 0
+loadSize (Copy dst src cpSize mode cache) = 0
+loadSize Commit = 0
+loadSize (Wait n) = 0
+loadSize WaitAll = 0
+loadSize (BulkCopy dst src size) = 0
+loadSize (BulkReduction dst src size operation element) = 0
+loadSize BulkCommit = 0
+loadSize (BulkWait n) = 0
+
 -- The bytes of an event's load, if it is one.
 abbrev pub loadOf : Event → List ℕ → List (List ℕ)
 loadOf (Load address size) bytes = bytes ∷ []

@@ -23,7 +23,8 @@ use Rattle.rules.specs.Faults.{Lengths, faultless}
 use Rattle.rules.specs.Answers.{answerOf}
 use Rattle.rules.specs.Theorems.{IsAccepted}
 use Rattle.rules.proofs.Accepted.{accepted-items, accepted-well-formed}
-use Rattle.moves.specs.Acting.{loadSize, Memories, readBy, acted}
+use Rattle.rules.specs.Outcomes.{loadSize}
+use Rattle.moves.specs.Acting.{Memories, readBy, acted}
 use Rattle.run.specs.Running.{loadSizeOf, loadBytes}
 use Rattle.run.specs.Acting.{FaultlessItem, actedItem, actedAll}
 

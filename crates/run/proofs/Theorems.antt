@@ -32,9 +32,9 @@ use Rattle.rules.proofs.Right.{Fits}
 use Rattle.rules.proofs.Accepted.{accepted-items}
 use Rattle.rules.proofs.Files.{list-fits, answer-recorded, still-accepted-file, still-the-same-file}
 use Rattle.judge.proofs.Beginnings.{Says, shapeless, listed, says}
-use Rattle.moves.specs.Acting.{loadSize}
 use Rattle.run.specs.Running.{Lent, isAccepted, loadBytes, orNoRoom, areLent, answerOfRun, lentAfter}
 use Rattle.run.specs.Theorems.{OneResult, OneRun, GivenInRuns, AsJudged, MoreWaitingInRuns}
+use Rattle.rules.specs.Outcomes.{loadSize}
 use Rattle.run.proofs.Answers.{run-not-lent, run-judged, run-no-room, run-room}
 
 -- ---- what an accepted run tells of its file

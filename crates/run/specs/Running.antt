@@ -15,9 +15,8 @@ use Rattle.trace.specs.File.{Contents, refused, recorded}
 use Rattle.rules.specs.Closing.{allOf}
 use Rattle.rules.specs.Orders.{Action, PermittedOrder}
 use Rattle.rules.specs.Answers.{answerOf, lengthsIn}
-use Rattle.rules.specs.Outcomes.{Outcome, outcome}
+use Rattle.rules.specs.Outcomes.{loadSize, Outcome, outcome}
 use Rattle.rules.specs.Theorems.{codeOf, IsAccepted}
-use Rattle.moves.specs.Acting.{loadSize}
 
 -- ---- What is lent.
 

@@ -9,9 +9,9 @@ use Rattle.event.specs.declared.Cache.the-variants.{Ca}
 use Rattle.event.specs.declared.Event.the-variants.{Load, Copy, WaitAll}
 use Rattle.event.specs.declared.Mode.the-variants.{Plain}
 use Rattle.decoder.specs.declared.Item.the-variants.{Decoded}
-use Rattle.decoder.specs.Bodies.{global, shared}
 use Rattle.trace.specs.File.{shapeOf, recorded, fileOf}
 use Rattle.trace.specs.Beginning.{enough, heldOf, checkedFile, checkOf}
+use Rattle.event.specs.Addresses.{global, shared}
 
 -- A file that is held whole is a beginning that says what the file says.
 unfoldable pub HeldWhole : Type 0

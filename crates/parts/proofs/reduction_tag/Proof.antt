@@ -1,7 +1,7 @@
 -- `parts::reduction_tag` meets its contract: no part of a tag overflows.
 -- Assumes nothing.
 use native.Mathlib.Omega.{arith}
-use Rattle.parts.proofs.Numbers.{few-operations, few-types}
+use Rattle.event.proofs.Numbers.{few-operations, few-types}
 use borrow.Author.Needs.{needs}
 use Rattle.parts.proofs.reduction_tag.Statement.{statement}
 use Rattle.parts.proofs.reduction_tag.Tie as tie

@@ -43,8 +43,8 @@ returns-2 c =
     (ap (λ t. leaving t (now (a .ranges)) (now (a .marks))) refusal
     ∙ sym (step-undecoded _ _ _ on (a .item) (undecoded (a .item) (c .before .before .match .keys2))))
 
-fault-of-requires : tie.Need-fault-of-requires
-fault-of-requires c κs = search needs
+fault-alone-requires : tie.Need-fault-alone-requires
+fault-alone-requires c κs = search needs
 
 is-no-verdict-requires : tie.Need-is-no-verdict-requires
 is-no-verdict-requires c κs = search needs
@@ -56,7 +56,7 @@ returns-3 : tie.Need-returns-3
 returns-3 c =
     let a = c .before .before .before .before .before .before .before .before .before .before .before .args in
     let on = sym (c .before .before .before .before .before .before .before .before .goes-on .ensures) ∙ not-false _ (c .before .before .before .before .before .before .before .if1 .left) in
-    let fault = c .before .before .before .fault-of .ensures in
+    let fault = c .before .before .before .fault-alone .ensures in
     let refusal = c .refused2 .ensures ∙ ap (refusedBy (a .self)) fault in
     let some = sym (c .before .before .is-no-verdict .ensures ∙ ap isNoVerdict fault) ∙ not-true _ (c .before .if2 .taken) in
     rw (c .before .before .before .before .before .item .given .1)
@@ -79,7 +79,7 @@ returns-4 : tie.Need-returns-4
 returns-4 c =
     let a = c .before .before .before .before .before .before .before .before .before .before .before .before .before .before .before .before .before .before .args in
     let on = sym (c .before .before .before .before .before .before .before .before .before .before .before .before .before .before .before .goes-on .ensures) ∙ not-false _ (c .before .before .before .before .before .before .before .before .before .before .before .before .before .before .if1 .left) in
-    let none = sym (c .before .before .before .before .before .before .before .before .before .is-no-verdict .ensures ∙ ap isNoVerdict (c .before .before .before .before .before .before .before .before .before .before .fault-of .ensures)) ∙ not-false _ (c .before .before .before .before .before .before .before .before .if2 .left) in
+    let none = sym (c .before .before .before .before .before .before .before .before .before .is-no-verdict .ensures ∙ ap isNoVerdict (c .before .before .before .before .before .before .before .before .before .before .fault-alone .ensures)) ∙ not-false _ (c .before .before .before .before .before .before .before .before .if2 .left) in
     rw (c .before .before .before .before .before .before .before .before .before .before .before .before .item .given .1)
     (stepped (a .self) _ (now (a .ranges)) (now (a .marks)) _ _ _
     (c .before .before .before .before .after .ensures ∙ ap (λ p. leftBy p (a .self) (now (a .ranges)) (now (a .marks))) (c .before .before .before .before .before .before .before .part-of .ensures)
@@ -96,7 +96,7 @@ step-item-spec =
     refusal-requires
     refused-requires
     returns-2
-    fault-of-requires
+    fault-alone-requires
     is-no-verdict-requires
     refused-requires-2
     returns-3

@@ -1,11 +1,11 @@
--- `checks::fault_of` meets its contract: it answers for the first check that fails, in document 01's order.
+-- `checks::fault_alone` meets its contract: it answers for the first check that fails, in document 01's order.
 -- Assumes nothing.
 use mathlib.Core.Path.{sym, _∙_}
 use borrow.Author.Tests.{not-true, not-false}
 use Rattle.checks.proofs.First.{not-allowed, misaligned, out-of-range, no-fault}
 use borrow.Author.Needs.{needs}
-use Rattle.checks.proofs.fault_of.Statement.{statement}
-use Rattle.checks.proofs.fault_of.Tie as tie
+use Rattle.checks.proofs.fault_alone.Statement.{statement}
+use Rattle.checks.proofs.fault_alone.Tie as tie
 
 allowed-requires : tie.Need-allowed-requires
 allowed-requires c κs = search needs
@@ -40,8 +40,8 @@ returns-4 c =
     (sym (c .before .before .before .before .aligned .ensures) ∙ not-false _ (c .before .if2 .left))
     (sym (c .before .before .before .in-range .ensures) ∙ not-false _ (c .if3 .left))
 
-pub fault-of-spec : {M : Type 1} → statement M
-fault-of-spec =
+pub fault-alone-spec : {M : Type 1} → statement M
+fault-alone-spec =
     tie.close
     (tie.spec
     allowed-requires

@@ -1,2 +1,0 @@
--- Laws of what an event is to the table.
-pub mod Numbers
