@@ -10,8 +10,7 @@ use Rattle.answer.specs.declared.Answer.{Answer}
 use Rattle.answer.specs.declared.Numbers.{Numbers}
 use Rattle.answer.specs.Numbers.{four, numbersOf, caseOf}
 use Rattle.answer.specs.Table.{fitNamed, fit}
-use Rattle.answer.specs.Sheet.{twoEach, inOrder, laidOut, numbersAt, sheetOf, isSheet, readOf}
-use Rattle.answer.specs.Theorems.{Given}
+use Rattle.answer.specs.Sheet.{twoEach, inOrder, laidOut, numbersAt, sheetOf, isSheet, readOf, Given}
 use Rattle.answer.proofs.Fitting.{named-again, has-row, held}
 use Rattle.answer.proofs.Reading.{read-sheet, parts, verdict, standing}
 use Rattle.answer.proofs.TwoBytes.{each-bytes}

@@ -11,8 +11,8 @@ use Rattle.little_endian.specs.Number.{Bytes, numberAt, bytesOf}
 use Rattle.answer.specs.declared.Answer.the-variants.{NotWritten}
 use Rattle.answer.specs.Numbers.{numbersOf, caseOf}
 use Rattle.answer.specs.Table.{fitNamed, fit}
-use Rattle.answer.specs.Sheet.{twoEach, twoAt, laidOut, numbersAt, sheetOf, isSheet, readOf, isWritten, writeAnswer, writeLeaves}
-use Rattle.answer.specs.Theorems.{Given, cut, NumbersTellApart, ReadsTheNumbers, ReadsBack, CutSheet, OtherLengths, OneSheet, WritesWhatIsGiven, KeepsTheRest, DocumentSheets}
+use Rattle.answer.specs.Sheet.{twoEach, twoAt, laidOut, numbersAt, sheetOf, isSheet, readOf, isWritten, writeAnswer, writeLeaves, Given}
+use Rattle.answer.specs.Theorems.{cut, NumbersTellApart, ReadsTheNumbers, ReadsBack, CutSheet, OtherLengths, OneSheet, WritesWhatIsGiven, KeepsTheRest, DocumentSheets}
 use Rattle.answer.proofs.Cut.{cut-before-code, cut-after-code}
 use Rattle.answer.proofs.Fitting.{named-again, has-row}
 use Rattle.answer.proofs.Given.{reads, given-fits, fits-given}

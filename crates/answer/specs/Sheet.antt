@@ -1,10 +1,11 @@
 -- The verdict sheet: twelve bytes, table first, the code last.
 use Prim.Native.Nat.{ℕ}
+use mathlib.Core.Path.{_≡_}
 use mathlib.Core.Bool.{Bool, _&&_, cond}
 use mathlib.Core.List.{List, [], _∷_, _++_}
 use lib.Dec.{leb, eqb}
 use lib.ListN.{length, drop}
-use Rattle.little_endian.specs.Number.{numberAt, bytesOf}
+use Rattle.little_endian.specs.Number.{Bytes, numberAt, bytesOf}
 use Rattle.answer.specs.declared.Answer.{Answer}
 use Rattle.answer.specs.declared.Answer.the-variants.{NoVerdict, Accepted, NotWritten}
 use Rattle.answer.specs.declared.Numbers.{Numbers}
@@ -42,6 +43,10 @@ isSheet s = eqb (length s) 12 && (eqb (twoAt s 0) 4 && eqb (twoAt s 2) 8 && fit 
 -- The reader gives no verdict for what is no sheet.
 unfoldable pub readOf : List ℕ → Answer
 readOf s = cond (isSheet s) (caseOf (numbersAt s)) NoVerdict
+
+-- The reader gives this answer for some bytes, and it is a verdict.
+abbrev pub Given : Answer → Type 0
+Given a = (s : List ℕ) × Bytes s × (readOf s ≡ a) × ¬ (a ≡ NoVerdict)
 
 -- At least 12 bytes are lent, and the answer is one that the reader gives.
 unfoldable pub isWritten : Answer → List ℕ → Bool

@@ -8,11 +8,7 @@ use Rattle.little_endian.specs.Number.{Bytes}
 use Rattle.answer.specs.declared.Answer.{Answer}
 use Rattle.answer.specs.declared.Answer.the-variants.{NoVerdict, Accepted, Clash, NotWritten}
 use Rattle.answer.specs.Numbers.{numbersOf}
-use Rattle.answer.specs.Sheet.{sheetOf, numbersAt, isSheet, readOf, done, writeAnswer, writeLeaves}
-
--- The reader gives this answer for some bytes, and it is a verdict.
-abbrev pub Given : Answer → Type 0
-Given a = (s : List ℕ) × Bytes s × (readOf s ≡ a) × ¬ (a ≡ NoVerdict)
+use Rattle.answer.specs.Sheet.{sheetOf, numbersAt, isSheet, readOf, Given, done, writeAnswer, writeLeaves}
 
 -- A sheet's first k bytes, followed by zeros to 12.
 abbrev pub cut : ℕ → List ℕ → List ℕ

@@ -8,10 +8,11 @@ use native.Mathlib.Omega.{arith}
 use lib.Dec.{leb, eqb, lit≤}
 use lib.ListN.{length}
 use borrow.Author.Tests.{leb-true, leb-false, eqb-true, eqb-false, le-leb, lt-leb}
+use Rattle.little_endian.specs.Number.{within}
 use Rattle.event.specs.declared.Event.{Event}
 use Rattle.decoder.specs.declared.Item.{Item}
 use Rattle.decoder.specs.declared.Item.the-variants.{Decoded, UnknownKind, WrongBodyLength, FieldNotAllowed}
-use Rattle.event.specs.Fields.{within, allowed}
+use Rattle.event.specs.Fields.{allowed}
 use Rattle.decoder.specs.Bodies.{checked}
 use Rattle.decoder.specs.Kinds.{Row, kindsOf01, inRanges, ofLength, decodeBy, decodeOf, overlong}
 use Rattle.decoder.proofs.Lengths.{wrong-length}

@@ -4,12 +4,12 @@ use mathlib.Core.Bool.{Bool, true, false, _||_, cond}
 use mathlib.Core.List.{List, [], _∷_}
 use lib.Dec.{eqb}
 use lib.ListN.{length}
+use Rattle.little_endian.specs.Number.{within}
 use Rattle.answer.specs.declared.Answer.{Answer}
 use Rattle.answer.specs.declared.Answer.the-variants as answer
 use Rattle.event.specs.declared.Event.the-variants.{Commit, WaitAll, BulkCommit}
 use Rattle.decoder.specs.declared.Item.{Item}
 use Rattle.decoder.specs.declared.Item.the-variants.{Decoded, UnknownKind, WrongBodyLength, FieldNotAllowed}
-use Rattle.event.specs.Fields.{within}
 use Rattle.decoder.specs.Bodies.{loadIn, storeIn, copyIn, waitIn, bulkCopyIn, bulkReductionIn, bulkWaitIn}
 
 -- A row of the table: a kind, how long its body is, and what a body of that length says.

@@ -4,7 +4,7 @@ use mathlib.Core.Bool.{Bool, true, not, _&&_, _||_}
 use mathlib.Core.List.{List, [], _∷_, _++_}
 use lib.Dec.{leb, eqb}
 use lib.ListN.{drop}
-use Rattle.little_endian.specs.Number.{isZero, bytesOf}
+use Rattle.little_endian.specs.Number.{isZero, within, bytesOf}
 use Rattle.event.specs.declared.Cache.{Cache}
 use Rattle.event.specs.declared.Cache.the-variants.{Ca, Cg}
 use Rattle.event.specs.declared.ElementType.{ElementType}
@@ -15,10 +15,6 @@ use Rattle.event.specs.declared.Mode.{Mode}
 use Rattle.event.specs.declared.Mode.the-variants.{Plain, SourceSize, SourceIgnored}
 use Rattle.event.specs.declared.Operation.{Operation}
 use Rattle.event.specs.declared.Operation.the-variants.{And, Or, Xor, Add, Min, Max}
-
--- From low to high.
-abbrev pub within : ℕ → ℕ → ℕ → Bool
-within low high n = leb low n && leb n high
 
 -- Thread sizes: 1, 2, 4, 8, 16.
 abbrev pub isThreadSize : ℕ → Bool

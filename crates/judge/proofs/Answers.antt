@@ -13,6 +13,7 @@ use Rattle.answer.specs.declared.Answer.the-variants.{NoVerdict, Accepted, TooM
 use Rattle.answer.specs.declared.Numbers.{Numbers}
 use Rattle.answer.specs.Numbers.{numbersOf}
 use Rattle.answer.specs.Table.{eventLimit, namedBy, fitNamed, fit}
+use Rattle.answer.specs.Codes.{codeOf, IsAccepted, isAccepted}
 use Rattle.event.specs.declared.Event.{Event}
 use Rattle.event.specs.Fields.{allowed}
 use Rattle.decoder.specs.declared.Item.{Item}
@@ -21,13 +22,11 @@ use Rattle.decoder.specs.Kinds.{refusalOf, isDecoded}
 use Rattle.checks.specs.Faults.{faultAlone}
 use Rattle.rules.specs.Faults.{Lengths, aligned, inRange, firstOf}
 use Rattle.rules.specs.Peak.{peak}
-use Rattle.rules.specs.Answers.{partnerOf, clashWith, orGoOn, judged, answerOf}
-use Rattle.rules.specs.Theorems.{answerTo, codeOf, IsAccepted}
+use Rattle.rules.specs.Answers.{partnerOf, clashWith, orGoOn, judged, answerOf, answerOfEvents}
 use Rattle.rules.proofs.Judged.{Through, goes-on, stops, judged-through, named-clash, within-limits}
 use Rattle.rules.proofs.Accepted.{alone, accepted-well-formed, judged-fault}
 use Rattle.rules.proofs.Files.{list-fits}
 use Rattle.rules.proofs.Lists.{accepted-clean}
-use Rattle.judge.specs.AsLeft.{isAccepted}
 
 -- ---- no answer of a list is no verdict
 pub some-verdict : (lengths : Lengths) (items : List Item) → ¬ (codeOf (answerOf lengths items) ≡ 0)
@@ -43,7 +42,7 @@ pub too-many : (lengths : Lengths) (items : List Item) → eventLimit < length i
 unfolding answerOf
 too-many lengths items h = rw (lt-leb (length items) eventLimit h)
 
-module _ (lengths : Lengths) (es : List Event) (h : IsAccepted (answerTo lengths es)) where
+module _ (lengths : Lengths) (es : List Event) (h : IsAccepted (answerOfEvents lengths es)) where
   -- ---- after events that are accepted, the judging goes on
   after-accepted : (tail : List Item) → judged lengths [] (map Decoded es ++ tail) ≡ judged lengths es tail
   after-accepted tail = by-way (judged-through lengths es tail (accepted-well-formed lengths es h .faultless))
@@ -52,7 +51,7 @@ module _ (lengths : Lengths) (es : List Event) (h : IsAccepted (answerTo lengths
       by-way (goes-on c) = refl
       by-way (stops pair) = absurd (named-clash es pair (accepted-clean lengths es h))
 
-  pub answer-is : answerTo lengths es ≡ Accepted (length es) (peak es (length es))
+  pub answer-is : answerOfEvents lengths es ≡ Accepted (length es) (peak es (length es))
   unfolding judged
   answer-is =
       within-limits lengths (map Decoded es)

@@ -6,6 +6,7 @@ use mathlib.Core.Path.{_≡_, refl, sym, ap, ap₂, _∙_}
 use mathlib.Core.Bool.{true, false, _&&_, true≢false, and-false}
 use mathlib.Core.List.{List, [], _∷_, _++_, map}
 use lib.ListN.{length, take}
+use Rattle.answer.specs.Codes.{IsAccepted}
 use Rattle.answer.specs.declared.Answer.{Answer}
 use Rattle.answer.specs.Table.{eventLimit, fitNamed, fit}
 use Rattle.event.specs.declared.Event.{Event}
@@ -23,7 +24,6 @@ use Rattle.trace.proofs.Shapes.{counted}
 use Rattle.trace.proofs.Held.{held-whole, shape-decided, items-there}
 use Rattle.rules.specs.Faults.{Lengths}
 use Rattle.rules.specs.Answers.{answerOf, lengthsIn, answerOfContents, answerOfFile}
-use Rattle.rules.specs.Theorems.{IsAccepted}
 use Rattle.rules.proofs.Accepted.{accepted-items, refused-more}
 use Rattle.rules.proofs.Right.{Fits}
 use Rattle.rules.proofs.Files.{of-shape, list-fits}

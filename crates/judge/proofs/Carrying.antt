@@ -12,6 +12,7 @@ use borrow.Author.Tests.{ne-eqb, eqb-true, eqb-false}
 use Rattle.answer.specs.declared.Answer.{Answer}
 use Rattle.answer.specs.declared.Answer.the-variants as answer
 use Rattle.answer.specs.Table.{eventLimit}
+use Rattle.answer.specs.Codes.{codeOf, IsAccepted, isAccepted, isNoVerdict}
 use Rattle.event.specs.declared.Event.{Event}
 use Rattle.decoder.specs.declared.Item.{Item}
 use Rattle.decoder.specs.declared.Item.the-variants.{Decoded, UnknownKind, WrongBodyLength, FieldNotAllowed}
@@ -23,12 +24,11 @@ use Rattle.parts.specs.declared.Part.{Part}
 use Rattle.parts.specs.Parts.{partOf}
 use Rattle.rules.specs.Faults.{Lengths}
 use Rattle.rules.specs.Peak.{peak}
-use Rattle.rules.specs.Answers.{partnerOf, clashWith, orGoOn, judged, answerOf}
-use Rattle.rules.specs.Theorems.{answerTo, codeOf, IsAccepted}
+use Rattle.rules.specs.Answers.{partnerOf, clashWith, orGoOn, judged, answerOf, answerOfEvents}
 use Rattle.rules.proofs.Accepted.{refused-more}
 use Rattle.judge.specs.declared.State.{State}
-use Rattle.judge.specs.AsLeft.{madeBy, openRecords, tracking, ended, isAccepted, AsLeft, Carried}
-use Rattle.judge.specs.Step.{isNoVerdict, goesOn, lengthsOf, counted, refusedBy, passedTo, After, leaving, leftBy, eventLeaves, itemLeaves, stepOf, Stepped}
+use Rattle.judge.specs.AsLeft.{madeBy, openRecords, tracking, ended, AsLeft, Carried}
+use Rattle.judge.specs.Step.{goesOn, lengthsOf, counted, refusedBy, passedTo, After, leaving, leftBy, eventLeaves, itemLeaves, stepOf, Stepped}
 use Rattle.judge.proofs.Acting.{Holds, clashIn, recordsAfter, madeAfter, ifClash, Acted, acted}
 use Rattle.judge.proofs.Sound.{going, counted-past, counted-kept}
 use Rattle.judge.proofs.Opens.{partnerFrom, length-open, records-next, partner-found, tracking-next}
@@ -58,7 +58,7 @@ module _ {lengths : Lengths} {items : List Item} {s : State} {ranges marks : Lis
       (suc eventLimit) s′ (too-many lengths (items ++ item ∷ []) (omega (arith, one-more items item))) refl
       (omega (arith, one-more items item)) e
 
-  full-if : (es : List Event) → items ≡ map Decoded es → IsAccepted (answerTo lengths es) → s ≡ tracking lengths es
+  full-if : (es : List Event) → items ≡ map Decoded es → IsAccepted (answerOfEvents lengths es) → s ≡ tracking lengths es
       → goesOn s (length ranges) (length marks) ≡ false → eventLimit ≤ length items
   full-if es are h state stops = elim (decLt (length es) eventLimit) [
     | yes few ↦ absurd (true≢false (sym (goes-on-if lengths es h (length ranges) (length marks) (left .ranges-long)
@@ -103,7 +103,7 @@ module _ {lengths : Lengths} {items : List Item} {s : State} {ranges marks : Lis
   record Goes (item : Item) : Type 0 where
     es : List Event
     are : items ≡ map Decoded es
-    accepted : IsAccepted (answerTo lengths es)
+    accepted : IsAccepted (answerOfEvents lengths es)
     state : s ≡ tracking lengths es
     in-ranges : ranges ≡ placed rangeWords (openAt es) ranges
     in-marks : marks ≡ placed markWords (openAt es) marks

@@ -10,6 +10,7 @@ use borrow.Author.Tests.{le-leb, lt-ltb, eqb-true, eq-eqb}
 use Rattle.little_endian.proofs.Tests.{both}
 use Rattle.answer.specs.declared.Answer.{Answer}
 use Rattle.answer.specs.Table.{eventLimit}
+use Rattle.answer.specs.Codes.{codeOf, IsAccepted, isAccepted}
 use Rattle.event.specs.declared.Event.{Event}
 use Rattle.decoder.specs.declared.Item.{Item}
 use Rattle.decoder.specs.declared.Item.the-variants.{Decoded}
@@ -21,15 +22,14 @@ use Rattle.rules.specs.Closing.{Chain, NonBulk, Bulk, Role, operation, commit, 
 use Rattle.rules.specs.Events.{eventAt}
 use Rattle.rules.specs.Faults.{Lengths}
 use Rattle.rules.specs.Peak.{openAfter, peak}
-use Rattle.rules.specs.Answers.{answerOf}
-use Rattle.rules.specs.Theorems.{answerTo, codeOf, IsAccepted}
+use Rattle.rules.specs.Answers.{answerOf, answerOfEvents}
 use Rattle.rules.proofs.Counting.{makes, commits}
 use Rattle.rules.proofs.Search.{count-most}
 use Rattle.rules.proofs.Peak.{peak-most, peak-largest}
 use Rattle.rules.proofs.Next.{made-commits}
 use Rattle.rules.proofs.Accepted.{accepted-items, accepted-well-formed}
 use Rattle.judge.specs.declared.State.{State}
-use Rattle.judge.specs.AsLeft.{placeLength, openRecords, tracking, ended, isAccepted, eventsOf, stateOf, openOf, AsLeft, Carried}
+use Rattle.judge.specs.AsLeft.{placeLength, openRecords, tracking, ended, eventsOf, stateOf, openOf, AsLeft, Carried}
 use Rattle.judge.specs.Step.{isSound, goesOn}
 use Rattle.judge.proofs.Opens.{length-open}
 
@@ -67,7 +67,7 @@ openAt es = openRecords es (length es) (length es)
 
 -- ---- the two ways to be left
 pub data How (lengths : Lengths) (items : List Item) (s : State) (ranges marks : List ℕ) : Type 0 where
-  passing : (es : List Event) → items ≡ map Decoded es → IsAccepted (answerTo lengths es) → s ≡ tracking lengths es
+  passing : (es : List Event) → items ≡ map Decoded es → IsAccepted (answerOfEvents lengths es) → s ≡ tracking lengths es
       → ranges ≡ placed rangeWords (openAt es) ranges → marks ≡ placed markWords (openAt es) marks
       → How lengths items s ranges marks
   over : ¬ IsAccepted (answerOf lengths items)
@@ -136,9 +136,9 @@ still-long words four es place place′ few long e =
     omega (arith, ap length e, length-placed words four (openAt es) place (omega (arith, few-records es few)))
 
 -- after events that are accepted
-module _ (lengths : Lengths) (es : List Event) (h : IsAccepted (answerTo lengths es)) where
-  test : isAccepted (answerTo lengths es) ≡ true
-  test = eq-eqb (codeOf (answerTo lengths es)) 1 h
+module _ (lengths : Lengths) (es : List Event) (h : IsAccepted (answerOfEvents lengths es)) where
+  test : isAccepted (answerOfEvents lengths es) ≡ true
+  test = eq-eqb (codeOf (answerOfEvents lengths es)) 1 h
 
   pub open-is : openOf lengths (map Decoded es) ≡ openAt es
   open-is = open-accepted lengths (map Decoded es) test ∙ ap openAt (events-again es)
@@ -168,7 +168,7 @@ module _ (lengths : Lengths) (es : List Event) (h : IsAccepted (answerTo lengths
 
 pub carried-passed : (lengths : Lengths) (es : List Event) (e : Event) (s′ : State) (ranges marks ranges′ marks′ : List ℕ)
     → placeLength ≤ length ranges → placeLength ≤ length marks
-    → IsAccepted (answerTo lengths (es ++ e ∷ [])) → s′ ≡ tracking lengths (es ++ e ∷ [])
+    → IsAccepted (answerOfEvents lengths (es ++ e ∷ [])) → s′ ≡ tracking lengths (es ++ e ∷ [])
     → ranges′ ≡ placed rangeWords (openAt (es ++ e ∷ [])) ranges → marks′ ≡ placed markWords (openAt (es ++ e ∷ [])) marks
     → Carried lengths (map Decoded es) (Decoded e) ranges marks s′ ranges′ marks′
 carried-passed lengths es e s′ ranges marks ranges′ marks′ long-ranges long-marks h state in-ranges in-marks =
@@ -204,7 +204,7 @@ open-most : (es : List Event) (n : ℕ) → openAfter es n ≤ peak es n
 open-most es zero = omega arith
 open-most es (suc n) = peak-largest es (suc n) n (omega arith)
 
-module _ (lengths : Lengths) (es : List Event) (h : IsAccepted (answerTo lengths es)) where
+module _ (lengths : Lengths) (es : List Event) (h : IsAccepted (answerOfEvents lengths es)) where
   pub sound-tracking : isSound (tracking lengths es) ≡ true
   unfolding isSound
   sound-tracking =

@@ -7,8 +7,10 @@ use mathlib.Core.Bool.{Bool, true, false, not, cond, true≢false, false≢true}
 use mathlib.Core.List.{List, [], _∷_, map}
 use lib.ListN.{length, drop, set}
 use lib.Seq.{sets, drop-drop, drop-append-add, drop-set-lt}
+use Rattle.rules.specs.Answers.{answerOfEvents}
 use Rattle.little_endian.specs.Number.{isZero}
 use Rattle.answer.specs.declared.Answer.{Answer}
+use Rattle.answer.specs.Codes.{IsAccepted, isNoVerdict}
 use Rattle.event.specs.declared.Address.the-variants.{Global, Shared}
 use Rattle.event.specs.declared.Event.{Event}
 use Rattle.event.specs.declared.Event.the-variants.{Load, Store, Copy, Commit, Wait, WaitAll, BulkCopy, BulkReduction, BulkCommit, BulkWait}
@@ -33,10 +35,9 @@ use Rattle.rules.specs.Faults.{Lengths}
 use Rattle.rules.specs.Peak.{openAfter}
 use Rattle.rules.specs.Waited.{MayAdd}
 use Rattle.rules.specs.Waited as waited
-use Rattle.rules.specs.Theorems.{answerTo, IsAccepted}
 use Rattle.judge.specs.declared.State.{State}
 use Rattle.judge.specs.AsLeft.{placeLength, AsLeft}
-use Rattle.judge.specs.Step.{isNoVerdict, lengthsOf, goesOn, After, leaving, refusedBy, passedTo, counted, orClash, leftBy, itemLeaves, stepOf}
+use Rattle.judge.specs.Step.{lengthsOf, goesOn, After, leaving, refusedBy, passedTo, counted, orClash, leftBy, itemLeaves, stepOf}
 use Rattle.judge.specs.Places.{Unchanged, refuses, RefusalsChangeNone, AccessesAndCommitsChangeNone, OperationsChangeTheirRecord, WaitsKeepRecords, WordsPastStay, OneRecordEach}
 use Rattle.judge.proofs.Sound.{going, counted-refusal}
 use Rattle.judge.proofs.Opens.{starts, length-open}
@@ -223,7 +224,7 @@ module _ (s : State) (ranges marks : List ℕ) where
 
 -- ---- one record for each open operation
 one-each : (lengths : Lengths) (es : List Event) (s : State) (ranges marks : List ℕ)
-    → AsLeft lengths (map Decoded es) s ranges marks → IsAccepted (answerTo lengths es)
+    → AsLeft lengths (map Decoded es) s ranges marks → IsAccepted (answerOfEvents lengths es)
     → (s .unclosed ≡ openAfter es (length es)) × (records (s .unclosed) ranges marks ≡ openAt es)
 one-each lengths es s ranges marks left h =
     let count = ap (λ (t : State). t .unclosed) (left .state-is ∙ state-tracks lengths es h) in

@@ -8,10 +8,10 @@ use borrow.Author.Tests.{leb-true, ltb-true, eqb-true, lt-ltb, le-ltb, eq-eqb, n
 use Rattle.little_endian.proofs.Tests.{both}
 use Rattle.answer.specs.declared.Answer.the-variants.{WrongShape, TooManyEvents}
 use Rattle.answer.specs.Table.{eventLimit}
-use Rattle.rules.specs.Theorems.{codeOf}
+use Rattle.answer.specs.Codes.{codeOf, isNoVerdict}
 use Rattle.judge.specs.declared.State.{State}
 use Rattle.judge.specs.AsLeft.{placeLength, ended}
-use Rattle.judge.specs.Step.{isNoVerdict, isSound, goesOn, lengthsOf, counted}
+use Rattle.judge.specs.Step.{isSound, goesOn, lengthsOf, counted}
 
 -- ---- The numbers of a sound state.
 pub record Bounded (s : State) : Type 0 where

@@ -13,7 +13,8 @@ use Rattle.answer.specs.declared.Answer.{Answer}
 use Rattle.answer.specs.declared.Answer.the-variants.{Accepted, WrongShape, WrongMemoryLength}
 use Rattle.answer.specs.Numbers.{numbersOf}
 use Rattle.answer.specs.Table.{eventLimit, fitNamed, fit}
-use Rattle.answer.specs.Theorems.{Given}
+use Rattle.answer.specs.Sheet.{Given}
+use Rattle.answer.specs.Codes.{codeOf}
 use Rattle.little_endian.specs.Number.{isZero}
 use Rattle.little_endian.proofs.Tests.{both}
 use Rattle.decoder.specs.declared.Item.{Item}
@@ -21,7 +22,6 @@ use Rattle.operations.specs.Table.{rangeWords, markWords, placed}
 use Rattle.rules.specs.Faults.{Lengths, areMemoryLengths}
 use Rattle.rules.specs.Peak.{peak}
 use Rattle.rules.specs.Answers.{judged, answerOf}
-use Rattle.rules.specs.Theorems.{codeOf}
 use Rattle.rules.proofs.Files.{list-fits}
 use Rattle.judge.specs.declared.State.{State}
 use Rattle.judge.specs.AsLeft.{placeLength, openRecords, tracking, ended, stateOf, openOf, AsLeft}

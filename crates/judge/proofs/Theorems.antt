@@ -6,6 +6,7 @@ use mathlib.Core.Bool.{Bool, true, false, cond}
 use mathlib.Core.List.{List, [], _∷_, _++_, append-nil, append-assoc}
 use lib.Dec.{leb}
 use borrow.Author.Tests.{leb-true}
+use Rattle.answer.specs.Codes.{isNoVerdict, codeOf, IsAccepted}
 use Rattle.little_endian.proofs.Tests.{both}
 use Rattle.answer.specs.declared.Answer.{Answer}
 use Rattle.answer.specs.declared.Answer.the-variants as answer
@@ -15,11 +16,10 @@ use Rattle.answer.proofs.Given.{fits-given}
 use Rattle.decoder.specs.declared.Item.{Item}
 use Rattle.rules.specs.Faults.{Lengths}
 use Rattle.rules.specs.Answers.{answerOf}
-use Rattle.rules.specs.Theorems.{codeOf, IsAccepted}
 use Rattle.rules.proofs.Files.{answer-recorded}
 use Rattle.judge.specs.declared.State.{State}
 use Rattle.judge.specs.AsLeft.{AsLeft}
-use Rattle.judge.specs.Step.{isNoVerdict, isRefusal, isSound, opened, answerIn, counted, After, leaving, stepOf}
+use Rattle.judge.specs.Step.{isRefusal, isSound, opened, answerIn, counted, After, leaving, stepOf}
 use Rattle.judge.specs.Beginnings.{answerOfBeginning}
 use Rattle.judge.specs.Theorems.{steps, StepsAnswer, StepsAnswerFiles, BeginningAnswers, GivenOfBeginnings, PlacesFit, AnyStateAnswers, FaultsShow, without, LostRefusalsShow}
 use Rattle.judge.proofs.Sound.{counted-refusal}

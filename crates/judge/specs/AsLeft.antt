@@ -3,13 +3,13 @@
 -- empty list, a step carries it on, and the answer of such a state is that of the rules; by theorem `StepsAnswer` it drops out.
 use Prim.Native.Nat.{ℕ, zero, suc, _*_, _≤_, min}
 use mathlib.Core.Path.{_≡_}
-use mathlib.Core.Bool.{Bool, cond}
+use mathlib.Core.Bool.{cond}
 use mathlib.Core.List.{List, [], _∷_, _++_}
-use lib.Dec.{eqb}
 use lib.ListN.{length}
 use Rattle.answer.specs.declared.Answer.{Answer}
 use Rattle.answer.specs.declared.Answer.the-variants.{NoVerdict}
 use Rattle.answer.specs.Table.{eventLimit}
+use Rattle.answer.specs.Codes.{isAccepted}
 use Rattle.event.specs.declared.Event.{Event}
 use Rattle.decoder.specs.declared.Item.{Item}
 use Rattle.decoder.specs.declared.Item.the-variants.{Decoded, UnknownKind, WrongBodyLength, FieldNotAllowed}
@@ -24,7 +24,6 @@ use Rattle.rules.specs.Faults.{Lengths}
 use Rattle.rules.specs.Closing.{NonBulk, Bulk, groups, isOpen}
 use Rattle.rules.specs.Peak.{openAfter, peak}
 use Rattle.rules.specs.Answers.{answerOf}
-use Rattle.rules.specs.Theorems.{codeOf}
 use Rattle.judge.specs.declared.State.{State}
 
 -- The words of each lent place: four for each operation that can be open.
@@ -74,9 +73,6 @@ ended lengths events refusal = record {
   shared = lengths .shared;
   refusal = refusal;
 }
-
-abbrev pub isAccepted : Answer → Bool
-isAccepted a = eqb (codeOf a) 1
 
 abbrev pub eventsOf : List Item → List Event
 eventsOf [] = []

@@ -6,6 +6,8 @@ use mathlib.Core.Bool.{Bool, true, false, not}
 use mathlib.Core.List.{List, map}
 use lib.ListN.{length, drop}
 use lib.Seq.{sets}
+use Rattle.answer.specs.Codes.{IsAccepted, isNoVerdict}
+use Rattle.rules.specs.Answers.{answerOfEvents}
 use Rattle.event.specs.declared.Event.{Event}
 use Rattle.decoder.specs.declared.Item.{Item}
 use Rattle.decoder.specs.declared.Item.the-variants.{Decoded}
@@ -20,10 +22,9 @@ use Rattle.rules.specs.Closing.{isOperation}
 use Rattle.rules.specs.Faults.{Lengths}
 use Rattle.rules.specs.Peak.{openAfter}
 use Rattle.rules.specs.Waited.{MayAdd}
-use Rattle.rules.specs.Theorems.{answerTo, IsAccepted}
 use Rattle.judge.specs.declared.State.{State}
 use Rattle.judge.specs.AsLeft.{placeLength, openRecords, AsLeft}
-use Rattle.judge.specs.Step.{isNoVerdict, After, stepOf}
+use Rattle.judge.specs.Step.{After, stepOf}
 
 -- No word of either place changes.
 abbrev pub Unchanged : List ℕ → List ℕ → After → Type 0
@@ -72,5 +73,5 @@ WordsPastStay =
 unfoldable pub OneRecordEach : Type 0
 OneRecordEach =
     (lengths : Lengths) (es : List Event) (s : State) (ranges marks : List ℕ)
-    → AsLeft lengths (map Decoded es) s ranges marks → IsAccepted (answerTo lengths es)
+    → AsLeft lengths (map Decoded es) s ranges marks → IsAccepted (answerOfEvents lengths es)
     → (s .unclosed ≡ openAfter es (length es)) × (records (s .unclosed) ranges marks ≡ openRecords es (length es) (length es))

@@ -6,11 +6,11 @@ use mathlib.Core.List.{List, []}
 use lib.Dec.{leb, ltb}
 use lib.ListN.{length}
 use lib.Seq.{sets}
-use Rattle.little_endian.specs.Number.{isZero}
 use Rattle.answer.specs.declared.Answer.{Answer}
 use Rattle.answer.specs.declared.Answer.the-variants as answer
 use Rattle.answer.specs.Numbers.{numbersOf}
 use Rattle.answer.specs.Table.{eventLimit, fit}
+use Rattle.answer.specs.Codes.{codeOf, isNoVerdict}
 use Rattle.event.specs.declared.Event.{Event}
 use Rattle.decoder.specs.declared.Item.{Item}
 use Rattle.decoder.specs.declared.Item.the-variants.{Decoded, UnknownKind, WrongBodyLength, FieldNotAllowed}
@@ -27,12 +27,8 @@ use Rattle.parts.specs.declared.Part.{Part}
 use Rattle.parts.specs.declared.Part.the-variants.{Access, Operation, Commit, Wait}
 use Rattle.parts.specs.Parts.{partOf}
 use Rattle.rules.specs.Faults.{Lengths, areMemoryLengths}
-use Rattle.rules.specs.Theorems.{codeOf}
 use Rattle.judge.specs.declared.State.{State}
 use Rattle.judge.specs.AsLeft.{placeLength, tracking, ended, AsLeft, Carried}
-
-abbrev pub isNoVerdict : Answer → Bool
-isNoVerdict a = isZero (codeOf a)
 
 -- A refusal that a sheet can hold.
 abbrev pub isRefusal : Answer → Bool

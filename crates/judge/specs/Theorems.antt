@@ -4,17 +4,17 @@ use mathlib.Core.Path.{_≡_}
 use mathlib.Core.Bool.{false}
 use mathlib.Core.List.{List, [], _∷_}
 use lib.ListN.{length, take}
+use Rattle.answer.specs.Codes.{IsAccepted, isNoVerdict}
+use Rattle.answer.specs.Sheet.{Given}
 use Rattle.answer.specs.declared.Answer.the-variants.{NoVerdict}
 use Rattle.answer.specs.Table.{eventLimit}
-use Rattle.answer.specs.Theorems.{Given}
 use Rattle.decoder.specs.declared.Item.{Item}
 use Rattle.trace.specs.Beginning.{enough}
 use Rattle.rules.specs.Faults.{Lengths}
-use Rattle.rules.specs.Answers.{answerOf, answerOfFile}
-use Rattle.rules.specs.Theorems.{IsAccepted, Records}
+use Rattle.rules.specs.Answers.{answerOf, answerOfFile, Records}
 use Rattle.judge.specs.declared.State.{State}
 use Rattle.judge.specs.AsLeft.{placeLength, AsLeft}
-use Rattle.judge.specs.Step.{isNoVerdict, isSound, opened, answerIn, goesOn, After, leaving, stepOf}
+use Rattle.judge.specs.Step.{isSound, opened, answerIn, goesOn, After, leaving, stepOf}
 use Rattle.judge.specs.Beginnings.{answerOfBeginning}
 
 -- ---- The answers.

@@ -8,12 +8,13 @@ ghost use mathlib.Core.Path.{_≡_};
 ghost use mathlib.Core.List.{List, []};
 ghost use Prim.Native.Nat.{ℕ, _≤_};
 ghost use lib.ListN.{length};
-ghost use Rattle.answer.specs.Theorems.{Given};
+ghost use Rattle.answer.specs.Sheet.{Given};
+ghost use Rattle.answer.specs.Codes.{isNoVerdict};
 ghost use Rattle.decoder.specs.declared.Item.{Item};
 ghost use Rattle.rules.specs.Faults.{Lengths};
 ghost use Rattle.rules.specs.Answers.{answerOf};
 ghost use Rattle.judge.specs.AsLeft.{placeLength, AsLeft};
-ghost use Rattle.judge.specs.Step.{isNoVerdict, isRefusal, isSound, opened, answerIn};
+ghost use Rattle.judge.specs.Step.{isRefusal, isSound, opened, answerIn};
 
 impl State {
     // The state before the first event of a list under these memory lengths. Places of any contents go with it.

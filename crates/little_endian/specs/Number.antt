@@ -1,12 +1,16 @@
 -- Numbers in bytes, the lowest byte first.
 use Prim.Native.Nat.{ℕ, zero, suc, _+_, _*_, _/_, _%_, _<_}
-use mathlib.Core.Bool.{Bool}
+use mathlib.Core.Bool.{Bool, _&&_}
 use mathlib.Core.List.{List, [], _∷_}
-use lib.Dec.{eqb}
+use lib.Dec.{leb, eqb}
 use lib.ListN.{getD}
 
 abbrev pub isZero : ℕ → Bool
 isZero n = eqb n 0
+
+-- From low to high.
+abbrev pub within : ℕ → ℕ → ℕ → Bool
+within low high n = leb low n && leb n high
 
 -- A list of bytes.
 unfoldable pub Bytes : List ℕ → Type 0

@@ -1,7 +1,8 @@
 -- The proofs of the statements in specs/Theorems.antt.
 -- Assumes nothing.
 use mathlib.Core.Path.{refl, sym, ap, _∙_}
-use Rattle.answer.specs.Theorems.{Given, ReadsBack}
+use Rattle.answer.specs.Theorems.{ReadsBack}
+use Rattle.answer.specs.Sheet.{Given}
 use Rattle.answer.proofs.Given.{fits-given}
 use Rattle.answer.proofs.Theorems.{readsBack}
 use Rattle.answer.proofs.Writing.{written, parts}

@@ -9,23 +9,24 @@ use mathlib.Core.List.{List, [], _∷_, _++_, map}
 use mathlib.Core.Option.{some}
 use lib.ListN.{length, take, length-map, length-take}
 use lib.Seq.{getD-take}
+use Rattle.little_endian.specs.Number.{within}
 use Rattle.answer.specs.declared.Answer.{Answer}
 use Rattle.answer.specs.declared.Answer.the-variants as answer
 use Rattle.answer.specs.Table.{eventLimit}
+use Rattle.answer.specs.Codes.{codeOf, IsAccepted, IsRefusedAtEvent}
 use Rattle.event.specs.declared.Event.{Event}
 use Rattle.event.specs.declared.Event.the-variants.{Commit}
-use Rattle.event.specs.Fields.{within}
 use Rattle.decoder.specs.declared.Item.{Item}
 use Rattle.decoder.specs.declared.Item.the-variants.{Decoded}
 use Rattle.effect.specs.Memory.{State, initial}
 use Rattle.rules.specs.Faults.{Lengths, faultOf}
 use Rattle.rules.specs.Orders.{Action, actionsOf, PermittedOrder}
 use Rattle.rules.specs.Clashes.{Clean}
-use Rattle.rules.specs.Answers.{answerOf}
+use Rattle.rules.specs.Answers.{answerOf, answerOfEvents}
 use Rattle.rules.specs.Right.{WithinLimits, WellFormed, ClashingPair}
 use Rattle.rules.specs.Outcomes.{given, outcome}
 use Rattle.rules.specs.Waited.{Waited}
-use Rattle.rules.specs.Theorems.{answerTo, codeOf, IsAccepted, IsRefusedAtEvent, Exact, GiveTheSame}
+use Rattle.rules.specs.Theorems.{Exact, GiveTheSame}
 use Rattle.rules.proofs.Orders.{has-order}
 use Rattle.rules.proofs.Judged.{Judgement, passes, refused, Through, goes-on, stops, judged-through, judged-right, within-limits, named-clash, one-judgement}
 use Rattle.rules.proofs.Accepted.{accepted-items, accepted-well-formed, judged-fault, refused-more}
@@ -34,7 +35,7 @@ use Rattle.rules.proofs.Eager.{eager-outcome}
 use Rattle.rules.proofs.Waiting.{clean-kept, well-formed-kept, lasts-kept, loads-kept}
 
 module _ (lengths : Lengths) where
-  judgement : (es : List Event) → WellFormed lengths es → Judgement es (answerTo lengths es)
+  judgement : (es : List Event) → WellFormed lengths es → Judgement es (answerOfEvents lengths es)
   judgement es ok =
       rw (within-limits lengths (map Decoded es) (rw length-map (ok .limits)))
       (judged-right lengths es (ok .faultless))
@@ -75,17 +76,17 @@ module _ (lengths : Lengths) where
     };
   }
 
-  pub accepted-clean : (es : List Event) → IsAccepted (answerTo lengths es) → Clean es
+  pub accepted-clean : (es : List Event) → IsAccepted (answerOfEvents lengths es) → Clean es
   accepted-clean es h = judged-clean es (judgement es (accepted-well-formed lengths es h)) h
 
-  clean-accepted : (es : List Event) → WellFormed lengths es → Clean es → IsAccepted (answerTo lengths es)
+  clean-accepted : (es : List Event) → WellFormed lengths es → Clean es → IsAccepted (answerOfEvents lengths es)
   clean-accepted es ok c = ap codeOf (exact es ok .accepted .1 c)
 
   -- ---- the first fault
   module _ (bad : Item) (more : List Item) (fault : Answer) where
     after-events : (es : List Event) → WithinLimits lengths (length (map Decoded es ++ bad ∷ more))
         → faultOf lengths (length es) bad ≡ some fault
-        → IsAccepted (answerTo lengths es) → answerOf lengths (map Decoded es ++ bad ∷ more) ≡ fault
+        → IsAccepted (answerOfEvents lengths es) → answerOf lengths (map Decoded es ++ bad ∷ more) ≡ fault
     after-events es w q h =
         within-limits lengths (map Decoded es ++ bad ∷ more) w
         ∙ by-way (judged-through lengths es (bad ∷ more) (accepted-well-formed lengths es h .faultless))
@@ -104,7 +105,7 @@ module _ (lengths : Lengths) where
         rw (v .are) (after-events es (rw (v .are) at w) (rw (← k) (rw (v .are) at q)) (rw (v .are) at h))
 
   -- ---- the bytes
-  pub same-bytes : (es : List Event) → IsAccepted (answerTo lengths es) → (o₁ o₂ : List Action) → PermittedOrder es o₁
+  pub same-bytes : (es : List Event) → IsAccepted (answerOfEvents lengths es) → (o₁ o₂ : List Action) → PermittedOrder es o₁
       → PermittedOrder es o₂
       → (global shared : List ℕ) → outcome es global shared o₁ ≡ outcome es global shared o₂
   same-bytes es h o₁ o₂ p₁ p₂ global shared =
@@ -114,8 +115,8 @@ module _ (lengths : Lengths) where
 
   -- ---- more waiting
   module _ {es es′ : List Event} (r : Waited es es′) (n : length es′ ≤ eventLimit)
-      (h : IsAccepted (answerTo lengths es)) where
-    pub still-accepted : IsAccepted (answerTo lengths es′)
+      (h : IsAccepted (answerOfEvents lengths es)) where
+    pub still-accepted : IsAccepted (answerOfEvents lengths es′)
     still-accepted =
         clean-accepted es′ (well-formed-kept lengths r n (accepted-well-formed lengths es h))
         (clean-kept r (accepted-clean es h))

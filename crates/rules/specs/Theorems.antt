@@ -7,13 +7,13 @@ use mathlib.Core.Bool.{true, false}
 use mathlib.Core.List.{List, _∷_, _++_, map}
 use mathlib.Core.Option.{some}
 use lib.ListN.{length, take}
+use Rattle.little_endian.specs.Number.{within}
 use Rattle.answer.specs.declared.Answer.{Answer}
 use Rattle.answer.specs.declared.Answer.the-variants as answer
-use Rattle.answer.specs.Numbers.{numbersOf}
 use Rattle.answer.specs.Table.{eventLimit}
-use Rattle.answer.specs.Theorems.{Given}
+use Rattle.answer.specs.Codes.{codeOf, IsAccepted, IsRefusedAtEvent}
+use Rattle.answer.specs.Sheet.{Given}
 use Rattle.event.specs.declared.Event.{Event}
-use Rattle.event.specs.Fields.{within}
 use Rattle.decoder.specs.declared.Item.{Item}
 use Rattle.decoder.specs.declared.Item.the-variants.{Decoded}
 use Rattle.trace.specs.declared.Header.{Header}
@@ -27,32 +27,10 @@ use Rattle.rules.specs.Closing.{isOperation, closedBy}
 use Rattle.rules.specs.Orders.{Action, actionsOf, PermittedOrder, CanComeEitherWay, happensAt}
 use Rattle.rules.specs.Clashes.{EventsClash, Clean}
 use Rattle.rules.specs.Peak.{openAfter, peak}
-use Rattle.rules.specs.Answers.{answerOf, lengthsIn, answerOfFile}
+use Rattle.rules.specs.Answers.{answerOf, lengthsIn, answerOfFile, answerOfEvents, Records}
 use Rattle.rules.specs.Right.{WithinLimits, WellFormed, ClashingPair, Right}
 use Rattle.rules.specs.Outcomes.{outcome}
 use Rattle.rules.specs.Waited.{Waited, Extended}
-
--- ---- Words of the statements.
-
--- The answer of a list of events.
-abbrev pub answerTo : Lengths → List Event → Answer
-answerTo lengths es = answerOf lengths (map Decoded es)
-
-abbrev pub codeOf : Answer → ℕ
-codeOf a = numbersOf a .code
-
-abbrev pub IsAccepted : Answer → Type 0
-IsAccepted a = codeOf a ≡ 1
-
--- Refused at one of its events: codes 5 to 10.
-abbrev pub IsRefusedAtEvent : Answer → Type 0
-IsRefusedAtEvent a = within 5 10 (codeOf a) ≡ true
-
--- The file gets none of 2 to 4, and these are its memory lengths and its items.
-abbrev pub Records : List ℕ → Lengths → List Item → Type 0
-Records f lengths items =
-    fileOf eventLimit f
-    ≡ recorded (record { events = length items; global = lengths .global; shared = lengths .shared }) items
 
 -- ---- The orders.
 
@@ -109,8 +87,8 @@ GivenAnswer =
 -- A list is accepted exactly when it is clean, and refused with a pair exactly when document 01 fixes that pair; there is
 -- no third way.
 pub record Exact (lengths : Lengths) (es : List Event) : Type 0 where
-  pub accepted : (answerTo lengths es ≡ answer.Accepted (length es) (peak es (length es))) ↔ Clean es
-  pub refused : (event partner : ℕ) → (answerTo lengths es ≡ answer.Clash event partner) ↔ ClashingPair es event partner
+  pub accepted : (answerOfEvents lengths es ≡ answer.Accepted (length es) (peak es (length es))) ↔ Clean es
+  pub refused : (event partner : ℕ) → (answerOfEvents lengths es ≡ answer.Clash event partner) ↔ ClashingPair es event partner
   pub no-third : Clean es ⊎ ((event : ℕ) × (partner : ℕ) × ClashingPair es event partner)
 
 -- So it is for every well-formed list, and for each shorter list.
@@ -146,7 +124,7 @@ PeakIsLargest =
 -- In an accepted list every permitted order gives each load the same bytes and leaves the same memories.
 unfoldable pub SameBytes : Type 0
 SameBytes =
-    (lengths : Lengths) (es : List Event) → IsAccepted (answerTo lengths es)
+    (lengths : Lengths) (es : List Event) → IsAccepted (answerOfEvents lengths es)
     → (o₁ o₂ : List Action) → PermittedOrder es o₁ → PermittedOrder es o₂
     → (global shared : List ℕ) → outcome es global shared o₁ ≡ outcome es global shared o₂
 
@@ -171,7 +149,7 @@ GiveTheSame es es′ =
 unfoldable pub MoreWaiting : Type 0
 MoreWaiting =
     (lengths : Lengths) (es es′ : List Event) → Waited es es′ → length es′ ≤ eventLimit
-    → IsAccepted (answerTo lengths es) → IsAccepted (answerTo lengths es′) × GiveTheSame es es′
+    → IsAccepted (answerOfEvents lengths es) → IsAccepted (answerOfEvents lengths es′) × GiveTheSame es es′
 
 -- The same of files.
 unfoldable pub MoreWaitingInFiles : Type 0

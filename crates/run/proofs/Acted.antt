@@ -7,6 +7,7 @@ use mathlib.Core.Path.{_≡_, refl, sym, ap, ap₂, _∙_}
 use mathlib.Core.List.{List, [], _∷_, _++_, map, append-assoc, append-nil}
 use lib.ListN.{length, getD, drop, length-append}
 use lib.Seq.{sets-eq}
+use Rattle.answer.specs.Codes.{IsAccepted}
 use Rattle.event.specs.declared.Event.{Event}
 use Rattle.event.specs.declared.Event.the-variants.{Load, Store, Copy, Commit, Wait, WaitAll, BulkCopy, BulkReduction, BulkCommit, BulkWait}
 use Rattle.decoder.specs.declared.Item.the-variants.{Decoded}
@@ -18,7 +19,7 @@ use Rattle.rules.specs.Closing.{allOf}
 use Rattle.rules.specs.Faults.{Lengths}
 use Rattle.rules.specs.Orders.{Action, actionsOf, PermittedOrder}
 use Rattle.rules.specs.Outcomes.{loadOf, loadsOf}
-use Rattle.rules.specs.Theorems.{answerTo, IsAccepted}
+use Rattle.rules.specs.Answers.{answerOfEvents}
 use Rattle.rules.proofs.Orders.{has-order}
 use Rattle.rules.proofs.Eager as eager
 use Rattle.rules.proofs.Eager.{stepped, withRead, lasts, reads, step-apart, eager-outcome}
@@ -98,7 +99,7 @@ all-acted (e ∷ es) m =
     (next-state e m) (sym (read-next e es m))
 
 -- ---- in every permitted order
-pub every-order : (lengths : Lengths) (es : List Event) (before : Lent) → IsAccepted (answerTo lengths es)
+pub every-order : (lengths : Lengths) (es : List Event) (before : Lent) → IsAccepted (answerOfEvents lengths es)
     → loadBytes (map Decoded es) ≤ length (before .loadRecord)
     → (order : List Action) → PermittedOrder es order
     → left (actedAll (map Decoded es) (memories (before .global) (before .shared) (before .loadRecord) 0)) ≡ leaves es order before

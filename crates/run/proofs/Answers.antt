@@ -15,6 +15,7 @@ use Rattle.answer.proofs.Answer.{the-type}
 use Rattle.answer.specs.declared.Answer.{Answer}
 use Rattle.answer.specs.declared.Answer.the-variants as answer
 use Rattle.answer.specs.Table.{eventLimit}
+use Rattle.answer.specs.Codes.{codeOf, IsAccepted, isAccepted}
 use Rattle.decoder.specs.declared.Item.{Item}
 use Rattle.trace.specs.declared.Header.{Header}
 use Rattle.trace.specs.declared.Shape.{Shape}
@@ -24,11 +25,10 @@ use Rattle.trace.specs.Beginning.{enough, heldItemIn, heldContents, heldOf}
 use Rattle.trace.proofs.Faults.{length-first}
 use Rattle.trace.proofs.Held.{shape-decided}
 use Rattle.rules.specs.Answers.{answerOf, lengthsIn}
-use Rattle.rules.specs.Theorems.{codeOf, IsAccepted}
 use Rattle.judge.specs.Beginnings.{answerOfBeginning}
 use Rattle.judge.proofs.Beginnings.{beginning-items, beginning-judged, told-shape, Says, shapeless, says}
 use Rattle.moves.specs.Acting.{memories}
-use Rattle.run.specs.Running.{Lent, isAccepted, loadBytes, orNoRoom, areLent, answerOfRun, Ran}
+use Rattle.run.specs.Running.{Lent, loadBytes, orNoRoom, areLent, answerOfRun, Ran}
 use Rattle.run.specs.Acting.{actedAll, left}
 use Rattle.run.proofs.Acted.{every-order}
 

@@ -9,6 +9,7 @@ use mathlib.Core.Bool.{false, true≢false}
 use mathlib.Core.List.{List, [], _∷_, _++_, append-assoc}
 use lib.ListN.{length, getD, length-take, length-map, List·getD-map}
 use lib.Seq.{getD-at}
+use Rattle.answer.specs.Codes.{IsAccepted}
 use Rattle.event.specs.declared.Address.the-variants as address
 use Rattle.event.specs.declared.Event.{Event}
 use Rattle.event.specs.declared.Event.the-variants.{Load, Store, Copy, Commit, Wait, WaitAll, BulkCopy, BulkReduction, BulkCommit, BulkWait}
@@ -21,7 +22,6 @@ use Rattle.trace.proofs.Faults.{length-first, further}
 use Rattle.rules.specs.Events.{eventAt}
 use Rattle.rules.specs.Faults.{Lengths, faultless}
 use Rattle.rules.specs.Answers.{answerOf}
-use Rattle.rules.specs.Theorems.{IsAccepted}
 use Rattle.rules.proofs.Accepted.{accepted-items, accepted-well-formed}
 use Rattle.rules.specs.Outcomes.{loadSize}
 use Rattle.moves.specs.Acting.{Memories, readBy, acted}

@@ -14,6 +14,7 @@ use Rattle.answer.proofs.Given.{fits-given}
 use Rattle.answer.specs.declared.Answer.{Answer}
 use Rattle.answer.specs.declared.Answer.the-variants as answer
 use Rattle.answer.specs.Table.{eventLimit, fitNamed, fit}
+use Rattle.answer.specs.Codes.{codeOf, IsAccepted, isAccepted}
 use Rattle.event.specs.declared.Event.{Event}
 use Rattle.decoder.specs.declared.Item.{Item}
 use Rattle.decoder.specs.declared.Item.the-variants.{Decoded}
@@ -26,13 +27,12 @@ use Rattle.rules.specs.Orders.{actionsOf}
 use Rattle.rules.specs.Answers.{answerOf, lengthsIn, answerOfFile}
 use Rattle.rules.specs.Waited.{Waited, MayAdd, Lowered}
 use Rattle.rules.specs.Waited as waited
-use Rattle.rules.specs.Theorems.{codeOf, IsAccepted}
 use Rattle.rules.proofs.Orders.{has-order}
 use Rattle.rules.proofs.Right.{Fits}
 use Rattle.rules.proofs.Accepted.{accepted-items}
 use Rattle.rules.proofs.Files.{list-fits, answer-recorded, still-accepted-file, still-the-same-file}
 use Rattle.judge.proofs.Beginnings.{Says, shapeless, listed, says}
-use Rattle.run.specs.Running.{Lent, isAccepted, loadBytes, orNoRoom, areLent, answerOfRun, lentAfter}
+use Rattle.run.specs.Running.{Lent, loadBytes, orNoRoom, areLent, answerOfRun, lentAfter}
 use Rattle.run.specs.Theorems.{OneResult, OneRun, GivenInRuns, AsJudged, MoreWaitingInRuns}
 use Rattle.rules.specs.Outcomes.{loadSize}
 use Rattle.run.proofs.Answers.{run-not-lent, run-judged, run-no-room, run-room}

@@ -5,6 +5,7 @@ use mathlib.Core.Bool.{Bool, not, _&&_, cond}
 use mathlib.Core.List.{List, [], _∷_, _++_, map}
 use lib.Dec.{eqb, leb}
 use lib.ListN.{length, drop}
+use Rattle.answer.specs.Codes.{IsAccepted, isAccepted}
 use Rattle.answer.specs.declared.Answer.{Answer}
 use Rattle.answer.specs.declared.Answer.the-variants.{WrongMemoryLength, NoRoom}
 use Rattle.event.specs.declared.Event.{Event}
@@ -16,7 +17,6 @@ use Rattle.rules.specs.Closing.{allOf}
 use Rattle.rules.specs.Orders.{Action, PermittedOrder}
 use Rattle.rules.specs.Answers.{answerOf, lengthsIn}
 use Rattle.rules.specs.Outcomes.{loadSize, Outcome, outcome}
-use Rattle.rules.specs.Theorems.{codeOf, IsAccepted}
 
 -- ---- What is lent.
 
@@ -30,9 +30,6 @@ abbrev pub lent : List ℕ → List ℕ → List ℕ → Lent
 lent global shared loadRecord = record { global = global; shared = shared; loadRecord = loadRecord }
 
 -- ---- The answer.
-
-abbrev pub isAccepted : Answer → Bool
-isAccepted answer = eqb (codeOf answer) 1
 
 -- The bytes that an item loads.
 abbrev pub loadSizeOf : Item → ℕ

@@ -6,16 +6,16 @@ use mathlib.Core.List.{List, map}
 use lib.ListN.{length}
 use Rattle.answer.specs.declared.Answer.{Answer}
 use Rattle.answer.specs.Table.{eventLimit}
-use Rattle.answer.specs.Theorems.{Given}
+use Rattle.answer.specs.Sheet.{Given}
+use Rattle.answer.specs.Codes.{IsAccepted}
 use Rattle.event.specs.declared.Event.{Event}
 use Rattle.decoder.specs.declared.Item.{Item}
 use Rattle.decoder.specs.declared.Item.the-variants.{Decoded}
 use Rattle.trace.specs.File.{Contents, fileOf}
 use Rattle.trace.specs.Beginning.{heldOf}
 use Rattle.rules.specs.Faults.{Lengths}
-use Rattle.rules.specs.Answers.{answerOfFile}
+use Rattle.rules.specs.Answers.{answerOfFile, Records}
 use Rattle.rules.specs.Waited.{Waited}
-use Rattle.rules.specs.Theorems.{IsAccepted, Records}
 use Rattle.run.specs.Running.{Lent, loadBytes, answerOfRun, Ran}
 
 -- A run of this file over what is lent.

@@ -4,7 +4,7 @@ use mathlib.Core.Path.{_≡_}
 use Rattle.answer.specs.declared.Answer.{Answer}
 use Rattle.answer.specs.declared.Answer.the-variants.{NoVerdict}
 use Rattle.answer.specs.Numbers.{four, numbersOf}
-use Rattle.answer.specs.Theorems.{Given}
+use Rattle.answer.specs.Sheet.{Given}
 use Rattle.word.specs.Word.{packed, unpacked}
 
 -- The word of an answer that the sheet's reader gives has 64 bits and gives the answer back.

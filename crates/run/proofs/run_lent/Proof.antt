@@ -3,8 +3,8 @@
 use mathlib.Core.Path.{ap}
 use denote.Ref.{now}
 use Rattle.answer.specs.Table.{eventLimit}
+use Rattle.answer.specs.Codes.{codeOf}
 use Rattle.trace.proofs.Shapes.{counted}
-use Rattle.rules.specs.Theorems.{codeOf}
 use Rattle.run.specs.Running.{lent}
 use Rattle.run.proofs.Answers.{no-acceptance, lent-lengths, lent-refused, judged-accepts, lent-no-room, lent-run}
 use borrow.Author.Needs.{needs}

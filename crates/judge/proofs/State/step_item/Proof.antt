@@ -4,8 +4,9 @@ use native.Mathlib.Omega.{arith}
 use mathlib.Core.Path.{sym, ap, _∙_}
 use denote.Ref.{now}
 use borrow.Author.Tests.{not-true, not-false}
+use Rattle.answer.specs.Codes.{isNoVerdict}
 use Rattle.decoder.proofs.Variants.{undecoded}
-use Rattle.judge.specs.Step.{isNoVerdict, refusedBy, leaving, leftBy}
+use Rattle.judge.specs.Step.{refusedBy, leaving, leftBy}
 use Rattle.judge.proofs.Sound.{going}
 use Rattle.judge.proofs.Carrying.{stepped, step-counted, step-undecoded, step-fault, step-passes}
 use borrow.Author.Needs.{needs}
