@@ -1,4 +1,4 @@
--- Numbers in bytes, the lowest byte first.
+-- Two tests of numbers, and numbers in bytes, the lowest byte first.
 use Prim.Native.Nat.{ℕ, zero, suc, _+_, _*_, _/_, _%_, _<_}
 use mathlib.Core.Bool.{Bool, _&&_}
 use mathlib.Core.List.{List, [], _∷_}

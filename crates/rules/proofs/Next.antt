@@ -10,9 +10,9 @@ use lib.ListN.{length}
 use lib.Seq.{getD-append-seam}
 use lib.Dec.{ltb}
 use borrow.Author.Tests.{ltb-true, lt-ltb}
+use Rattle.little_endian.proofs.Tests.{equal-tests}
 use Rattle.event.specs.declared.Event.{Event}
 use Rattle.event.specs.declared.Event.the-variants.{Load, Store, Copy, Commit, Wait, WaitAll, BulkCopy, BulkReduction, BulkCommit, BulkWait}
-use Rattle.little_endian.proofs.Tests.{equal-tests}
 use Rattle.effect.specs.Access.{Access}
 use Rattle.rules.specs.Search.{anyBelow, countBelow}
 use Rattle.rules.specs.Events.{effectOf, accesses, eventAt}
