@@ -20,9 +20,18 @@
 extern "C" {
 #endif
 
-/* An answer crosses as its word: event, partner, peak and code, sixteen bits each, the event lowest. 0 is no verdict. The
- * code is in the highest bits, so that a word kept in 32 bits by mistake has lost it and is no verdict either. */
-typedef uint64_t lorvisk_word;
+#if defined(__GNUC__)
+#define LORVISK_LOOK_AT __attribute__((warn_unused_result))
+#else
+#define LORVISK_LOOK_AT
+#endif
+
+/* An answer crosses as its word, a number of 64 bits: code, event, partner and peak, sixteen bits each, the code lowest. 0 is
+ * no verdict. It is a struct here, so that no compiler takes it for a truth value or a code, and that it is not cut to an int;
+ * a binding that has it as a number finds the code in its lowest bits, however few it keeps. */
+typedef struct {
+    uint64_t bits;
+} lorvisk_word;
 
 /* The codes of an answer, and the numbers that go with each; a number that is not named is 0. */
 enum {
@@ -43,29 +52,33 @@ enum {
 /* The length of a verdict sheet. */
 #define LORVISK_SHEET_LENGTH 12
 
-static inline unsigned lorvisk_code(lorvisk_word word) { return (unsigned)(word >> 48); }
-static inline unsigned lorvisk_event(lorvisk_word word) { return (unsigned)(word & 0xffff); }
-static inline unsigned lorvisk_partner(lorvisk_word word) { return (unsigned)(word >> 16 & 0xffff); }
-static inline unsigned lorvisk_peak(lorvisk_word word) { return (unsigned)(word >> 32 & 0xffff); }
+/* The numbers of a word that one of the functions below gave. */
+static inline unsigned lorvisk_code(lorvisk_word word) { return (unsigned)(word.bits & 0xffff); }
+static inline unsigned lorvisk_event(lorvisk_word word) { return (unsigned)(word.bits >> 16 & 0xffff); }
+static inline unsigned lorvisk_partner(lorvisk_word word) { return (unsigned)(word.bits >> 32 & 0xffff); }
+static inline unsigned lorvisk_peak(lorvisk_word word) { return (unsigned)(word.bits >> 48); }
 
-/* Whether a file may pass. A word that is not 0 is no approval: refusals have words too. */
+/* Whether the file may pass: this, and nothing else, is approval. */
 static inline bool lorvisk_is_accepted(lorvisk_word word) { return lorvisk_code(word) == LORVISK_ACCEPTED; }
 
 /* The answer of a trace file, code 1 to 10: never 0. */
-lorvisk_word lorvisk_judge_file(const uint8_t *file, size_t file_length);
+LORVISK_LOOK_AT lorvisk_word lorvisk_judge_file(const uint8_t *file, size_t file_length);
 
 /* Runs a trace file over two memories and a load record; code 1 to 11, never 0. With code 1 both memories hold what every
  * permitted order of the file's events leaves, and the load record begins with the bytes of each load, in file order; its
  * bytes past them stay. With any other code nothing is changed. */
-lorvisk_word lorvisk_run_file(const uint8_t *file, size_t file_length, uint8_t *global, size_t global_length,
-                              uint8_t *shared, size_t shared_length, uint8_t *loads, size_t loads_length);
+LORVISK_LOOK_AT lorvisk_word lorvisk_run_file(const uint8_t *file, size_t file_length, uint8_t *global,
+                                              size_t global_length, uint8_t *shared, size_t shared_length,
+                                              uint8_t *loads, size_t loads_length);
 
-/* Writes the verdict sheet of a word to the first 12 bytes of out, and says whether it has: the bytes past them stay. False,
- * and nothing is changed, where fewer than 12 bytes are lent or the word is no verdict, 0 among them. */
-bool lorvisk_write_sheet(lorvisk_word word, uint8_t *out, size_t out_length);
+/* Writes the verdict sheet of a word to the first 12 bytes of out, and says whether it has: the bytes past them stay. True says
+ * that it is written, not that the file is accepted: a refusal has a sheet too. False, and nothing is changed, so that an older
+ * sheet still stands there, where fewer than 12 bytes are lent or the word is no verdict: 0, or any other that none of these
+ * functions gives. */
+LORVISK_LOOK_AT bool lorvisk_write_sheet(lorvisk_word word, uint8_t *out, size_t out_length);
 
 /* The word of the answer on a verdict sheet, code 1 to 11; 0 where the bytes are not exactly one sheet. */
-lorvisk_word lorvisk_read_sheet(const uint8_t *sheet, size_t sheet_length);
+LORVISK_LOOK_AT lorvisk_word lorvisk_read_sheet(const uint8_t *sheet, size_t sheet_length);
 
 #ifdef __cplusplus
 }

@@ -29,6 +29,10 @@ static void expect(bool found, const char *what) {
     if (!found) fail(what);
 }
 
+static bool same_word(lorvisk_word one, lorvisk_word other) { return one.bits == other.bits; }
+
+static bool is_no_verdict(lorvisk_word word) { return word.bits == 0; }
+
 /* ---- Lent memory. */
 
 struct lent {
@@ -58,11 +62,14 @@ static void fill(struct lent lent, unsigned seed) {
     for (size_t i = 0; i < lent.length; i++) lent.bytes[i] = (uint8_t)(seed + 7 * i + i / 256);
 }
 
-static bool is_filled(struct lent lent, unsigned seed) {
-    for (size_t i = 0; i < lent.length; i++)
+/* Whether all bytes from an index on are as they were filled. */
+static bool is_filled_from(struct lent lent, unsigned seed, size_t start) {
+    for (size_t i = start; i < lent.length; i++)
         if (lent.bytes[i] != (uint8_t)(seed + 7 * i + i / 256)) return false;
     return true;
 }
+
+static bool is_filled(struct lent lent, unsigned seed) { return is_filled_from(lent, seed, 0); }
 
 /* Whether the bytes before the lent ones are as they were. */
 static bool is_whole_before(struct lent lent) {
@@ -87,11 +94,11 @@ static struct lent file_named(const char *path) {
 static void check_written(lorvisk_word word) {
     struct lent sheet = lend(LORVISK_SHEET_LENGTH);
     expect(lorvisk_write_sheet(word, sheet.bytes, sheet.length), "its sheet is not written");
-    expect(lorvisk_read_sheet(sheet.bytes, sheet.length) == word, "its sheet reads otherwise");
+    expect(same_word(lorvisk_read_sheet(sheet.bytes, sheet.length), word), "its sheet reads otherwise");
     for (size_t kept = LORVISK_SHEET_LENGTH; kept-- > 0;) {
         sheet.bytes[kept] = 0;
         lorvisk_word read = lorvisk_read_sheet(sheet.bytes, sheet.length);
-        expect(read == (kept < 11 ? 0 : word), "its sheet, cut short, reads as another answer");
+        expect(kept < 11 ? is_no_verdict(read) : same_word(read, word), "its sheet, cut short, reads as another answer");
     }
     expect(is_whole_before(sheet), "the sheet is written before its place");
     take_back(sheet);
@@ -105,11 +112,13 @@ static void check_not_written(lorvisk_word word, size_t length) {
     take_back(sheet);
 }
 
-/* Words that no function gives: no verdict, the writer's own 1, a code past the table, numbers out of their bounds. */
+/* Words that no function gives: no verdict, a code past the table, numbers out of their bounds or not the code's. */
 static void check_other_words(void) {
-    const lorvisk_word others[] = {0, 1, 12, UINT64_C(12) << 48, UINT64_C(1) << 48 | 1025, UINT64_C(10) << 48 | 1 << 16 | 1, UINT64_MAX};
+    const uint64_t others[] = {0, 12, 256 + 1, 1025 << 16 | 1, UINT64_C(2) << 48 | 1 << 16 | 1, 1 << 16 | 2,
+                               UINT64_C(1) << 32 | 1 << 16 | 10, UINT64_MAX};
     strcpy(name, "a word that is no verdict");
-    for (size_t i = 0; i < sizeof others / sizeof *others; i++) check_not_written(others[i], LORVISK_SHEET_LENGTH);
+    for (size_t i = 0; i < sizeof others / sizeof *others; i++)
+        check_not_written((lorvisk_word){others[i]}, LORVISK_SHEET_LENGTH);
 }
 
 /* ---- Runs. */
@@ -146,19 +155,32 @@ static size_t length_at(struct lent file, size_t at) {
     return file.bytes[at] | file.bytes[at + 1] << 8 | file.bytes[at + 2] << 16 | (size_t)file.bytes[at + 3] << 24;
 }
 
+/* How many bytes the loads of an accepted file read: kind 1, whose body has its size in the second byte. */
+static size_t load_bytes(struct lent file) {
+    size_t events = file.bytes[0] | file.bytes[1] << 8, body = 12 + 4 * events, total = 0;
+    for (size_t i = 0; i < events; i++) {
+        const uint8_t *entry = file.bytes + 12 + 4 * i;
+        if (entry[0] == 1) total += file.bytes[body + 1];
+        body += entry[2] | entry[3] << 8;
+    }
+    return total;
+}
+
 static void check_runs(struct lent file, lorvisk_word judged) {
     size_t global = file.length < 12 ? 0 : length_at(file, 4), shared = file.length < 12 ? 0 : length_at(file, 8);
     if (global > 65536 || shared > 65536) global = shared = 16;
 
     struct memories lent = lend_memories(global, shared, LOADS_LENGTH);
     lorvisk_word word = run(file, lent);
-    expect(word == judged, "a run over memories of its lengths answers otherwise");
+    expect(same_word(word, judged), "a run over memories of its lengths answers otherwise");
+    size_t filled = lorvisk_is_accepted(word) ? load_bytes(file) : 0;
+    expect(is_filled_from(lent.loads, 3, filled), "a run changes the load record past its loads");
     check_left(lent, word);
 
     lent = lend_memories(global, shared, 0);
     word = run(file, lent);
     bool no_room = lorvisk_code(word) == LORVISK_NO_ROOM && lorvisk_event(word) == lorvisk_event(judged);
-    expect(word == judged || (lorvisk_is_accepted(judged) && no_room), "a run without a load record answers otherwise");
+    expect(same_word(word, judged) || (lorvisk_is_accepted(judged) && no_room), "a run without a load record answers otherwise");
     check_left(lent, word);
 
     lent = lend_memories(global + 1, shared, LOADS_LENGTH);
@@ -193,7 +215,7 @@ static void check_file(const char *folder, const unsigned numbers[4]) {
     expect(lorvisk_is_accepted(word) == (numbers[0] == 1), "is accepted, or not, otherwise than answers.txt says");
     check_written(word);
     check_not_written(word, LORVISK_SHEET_LENGTH - 1);
-    check_not_written((uint32_t)word, LORVISK_SHEET_LENGTH);
+    expect(((unsigned)word.bits & 0xffff) == numbers[0], "its code is lost where 32 bits are kept");
     check_runs(file, word);
     if (strcmp(name, "k01_copy_wait_all_load.trace") == 0) check_k01(file);
     take_back(file);
@@ -224,10 +246,9 @@ int main(int count, char **arguments) {
     }
     pthread_t thread;
     pthread_attr_t attributes;
-    pthread_attr_init(&attributes);
-    pthread_attr_setstacksize(&attributes, STACK_LENGTH);
-    if (pthread_create(&thread, &attributes, check_all, arguments[1]) != 0 || pthread_join(thread, NULL) != 0) {
-        fprintf(stderr, "embedding: no thread\n");
+    if (pthread_attr_init(&attributes) != 0 || pthread_attr_setstacksize(&attributes, STACK_LENGTH) != 0 ||
+        pthread_create(&thread, &attributes, check_all, arguments[1]) != 0 || pthread_join(thread, NULL) != 0) {
+        fprintf(stderr, "embedding: no thread with a stack of %d bytes\n", STACK_LENGTH);
         return 2;
     }
     return 0;

@@ -1,11 +1,14 @@
--- Words, and the sheets whose bodies they are.
+-- Words, and the bodies of sheets that they are made of.
 -- Assumes nothing.
-use Prim.Native.Nat.{ℕ, zero, suc, _/_, _%_, _^_, _<_}
-use mathlib.Core.Path.{_≡_, refl, ap, _∙_}
+use Prim.Native.Nat.{ℕ, zero, suc, _+_, _*_, _/_, _%_, _^_, _<_}
+use mathlib.Core.Path.{_≡_, refl, ap, ap₂, _∙_}
 use mathlib.Core.Bool.{Bool, true, false}
 use mathlib.Core.List.{List, [], _∷_, _++_}
 use native.Mathlib.Omega.{arith}
+use native.Mathlib.Nat.{mod-lt}
+use lib.Arith.{digits-lt}
 use lib.Dec.{lit<}
+use lib.Pow.{pow-add, pow-pos, shr-lt, low, high, split}
 use lib.ListN.{replicate}
 use lib.Seq.{sets}
 use Rattle.little_endian.specs.Number.{Bytes, numberAt, bytesOf}
@@ -15,29 +18,35 @@ use Rattle.answer.specs.declared.Answer.the-variants.{NoVerdict}
 use Rattle.answer.specs.Numbers.{numbersOf}
 use Rattle.answer.specs.Table.{fit}
 use Rattle.answer.specs.Sheet.{twoEach, inOrder, sheetOf, readOf, isWritten, writeLeaves}
-use Rattle.answer.specs.Theorems.{cut}
-use Rattle.answer.proofs.Cut.{cut-before-code}
-use Rattle.answer.proofs.Reading.{read-no-sheet}
 use Rattle.answer.proofs.TwoBytes.{each-bytes}
-use Rattle.word.specs.Word.{packed, sheetWith, unpacked}
+use Rattle.word.specs.Word.{bodyOf, sheetWith, turned}
 
-pub word-of : (a : Answer) → fit (numbersOf a) ≡ true → packed a ≡ numberAt 8 (sheetOf a) 4
-unfolding packed
-word-of a h = rw h
+pub body-of : (a : Answer) → fit (numbersOf a) ≡ true → bodyOf a ≡ numberAt 8 (sheetOf a) 4
+unfolding bodyOf
+body-of a h = rw h
 
--- Twelve zero bytes, lent to the writer, have the answer's word after the fourth.
-pub written-word : (a : Answer) → numberAt 8 (writeLeaves a (replicate 12 0)) 4 ≡ packed a
-unfolding packed writeLeaves isWritten numberAt bytesOf
-written-word a = go (fit (numbersOf a)) refl
+-- Twelve zero bytes, lent to the writer, have the answer's body after the fourth.
+pub written-body : (a : Answer) → numberAt 8 (writeLeaves a (replicate 12 0)) 4 ≡ bodyOf a
+unfolding bodyOf writeLeaves isWritten numberAt bytesOf
+written-body a = go (fit (numbersOf a)) refl
   where
-    go : (t : Bool) → fit (numbersOf a) ≡ t → numberAt 8 (writeLeaves a (replicate 12 0)) 4 ≡ packed a
+    go : (t : Bool) → fit (numbersOf a) ≡ t → numberAt 8 (writeLeaves a (replicate 12 0)) 4 ≡ bodyOf a
     go true e = rw e
     go false e = rw e
 
--- A word's bytes, put into a sheet that has none yet.
-pub put-word : (word : ℕ) → sets (4 ∷ 0 ∷ 8 ∷ replicate 9 0) 4 (bytesOf 8 word) ≡ sheetWith word
+-- A body, put into a sheet that has none yet.
+pub put-body : (body : ℕ) → sets (4 ∷ 0 ∷ 8 ∷ replicate 9 0) 4 (bytesOf 8 body) ≡ sheetWith body
 unfolding bytesOf
-put-word word = refl
+put-body body = refl
+
+-- Turned, and turned back.
+pub turned-back : (j k n : ℕ) → n < 2 ^ (j + k) → turned k j (turned j k n) ≡ n
+turned-back j k n h =
+    let above = shr-lt j k h in
+    ap₂ (λ (q r : ℕ). q * 2 ^ k + r) (low (n % 2 ^ k) j above) (high (n % 2 ^ k) j above) ∙ split n k
+
+pub turned-lt : (j k n : ℕ) → n < 2 ^ (j + k) → turned j k n < 2 ^ (k + j)
+turned-lt j k n h = rw (pow-add 2 k j) (digits-lt (mod-lt n (pow-pos k)) (shr-lt j k h))
 
 pub sheet-bytes : (word : ℕ) → Bytes (sheetWith word)
 unfolding Bytes bytesOf
@@ -53,18 +62,3 @@ unfolding bytesOf
 sheet-again a =
     ap (λ (body : List ℕ). twoEach (4 ∷ 8 ∷ []) ++ body)
     (back 8 (sheetOf a) 4 (each-bytes (inOrder (numbersOf a))) (lit< tt))
-
--- Below 2^48 a word's last two bytes are zero, as if cut off ..
-no-code-bytes : (word : ℕ) → word < 2 ^ 48 → sheetWith word ≡ cut 10 (sheetWith word)
-unfolding bytesOf
-no-code-bytes word h =
-    let sixth : word / 256 / 256 / 256 / 256 / 256 / 256 % 256 ≡ 0 = omega arith in
-    let seventh : word / 256 / 256 / 256 / 256 / 256 / 256 / 256 % 256 ≡ 0 = omega arith in
-    λ i. twoEach (4 ∷ 8 ∷ []) ++ (bytesOf 6 word ++ (sixth i ∷ seventh i ∷ []))
-
--- .. and with them its code: it is no verdict.
-pub no-code : (word : ℕ) → word < 2 ^ 48 → unpacked word ≡ NoVerdict
-unfolding unpacked
-no-code word h =
-    ap readOf (no-code-bytes word h)
-    ∙ read-no-sheet (cut 10 (sheetWith word)) (cut-before-code 10 (sheetWith word) (lit< tt))

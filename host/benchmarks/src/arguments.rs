@@ -13,11 +13,12 @@ give the answer that each file has to get.
 
   --rounds NUMBER   so many rounds, in each of which both judges have a turn of
                     2 to 4 milliseconds on every file; the smallest time counts
-                    (200 if not given, about 15 seconds)
+                    (200 if not given, about 20 seconds)
 
 For a profiler, calls one judge alone on one file of 1,024 events:
 
-  --case NAME       sixteen_open, all_open or refused_at_its_end
+  --case NAME       sixteen_open, all_open, both_chains_open or
+                    refused_at_its_end
   --judge NAME      simple or proved
   --times NUMBER    so many times";
 

@@ -1,6 +1,6 @@
 //! The files that are measured, for any number of events from 4 to 1,024, and the answer of each.
 
-use crate::written::{commit, copy, file, load, wait, Event};
+use crate::written::{bulk_copy, commit, copy, file, load, wait, Event};
 use wrapper::Answer;
 
 /// A family of files, one for each number of events.
@@ -10,7 +10,7 @@ pub struct Case {
     pub answer: fn(u16) -> Answer,
 }
 
-pub const CASES: [Case; 3] = [
+pub const CASES: [Case; 4] = [
     Case {
         name: "sixteen_open",
         file: sixteen_open,
@@ -19,6 +19,11 @@ pub const CASES: [Case; 3] = [
     Case {
         name: "all_open",
         file: all_open,
+        answer: all_open_answer,
+    },
+    Case {
+        name: "both_chains_open",
+        file: both_chains_open,
         answer: all_open_answer,
     },
     Case {
@@ -85,6 +90,20 @@ fn all_open_answer(events: u16) -> Answer {
         events,
         peak: events,
     }
+}
+
+/// Copies and bulk copies to different places, none of them ever closed, which of the two by lot: no processor foresees it.
+fn both_chains_open(events: u16) -> Vec<u8> {
+    let mut lot: u32 = 1;
+    file_of((0..u32::from(events)).map(|number| {
+        lot = lot.wrapping_mul(1_664_525).wrapping_add(1_013_904_223);
+        let (destination, source) = (place(number), place(number));
+        if lot >> 31 == 0 {
+            copy(destination, source)
+        } else {
+            bulk_copy(destination, source)
+        }
+    }))
 }
 
 /// All events but one are copies that stay open, and the last loads what the newest of them writes.

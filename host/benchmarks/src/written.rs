@@ -29,6 +29,12 @@ pub fn copy(destination: u32, source: u32) -> Event {
     Event { kind: 16, body }
 }
 
+/// A bulk copy of 16 bytes from shared to global memory.
+pub fn bulk_copy(destination: u32, source: u32) -> Event {
+    let body = [destination, source, 16].map(u32::to_le_bytes).concat();
+    Event { kind: 32, body }
+}
+
 pub fn commit() -> Event {
     let body = Vec::new();
     Event { kind: 17, body }

@@ -1,6 +1,44 @@
-//! The runs of the table leave the bytes that it says, and refused ones leave all as it was.
+//! The runs of the table leave the bytes that it says, and refused ones leave all as it was. Every file of the table leaves
+//! what the second program's run leaves.
 
 use std::collections::BTreeMap;
+
+/// Global memory, shared memory and load record.
+type Lent = (Vec<u8>, Vec<u8>, Vec<u8>);
+
+/// Bytes that differ from their neighbours.
+fn filled(length: usize, seed: usize) -> Vec<u8> {
+    (0..length)
+        .map(|index| (seed + 7 * index + index / 256) as u8)
+        .collect()
+}
+
+/// The length that a header names from this byte on, if a memory can have it.
+fn length_at(file: &[u8], at: usize) -> usize {
+    let bytes = file.get(at..at + 4).and_then(|bytes| bytes.try_into().ok());
+    let length = bytes.map_or(0, |bytes| u32::from_le_bytes(bytes) as usize);
+    length.min(65_536)
+}
+
+#[test]
+fn each_file_leaves_what_the_second_program_leaves() {
+    for row in traces::rows() {
+        for room in [0, 3, 16_384] {
+            let (global, shared) = (length_at(&row.file, 4), length_at(&row.file, 8));
+            let lent: Lent = (filled(global, 1), filled(shared, 2), filled(room, 3));
+            let (mut proved, mut second) = (lent.clone(), lent);
+            let answer = wrapper::run(&row.file, &mut proved.0, &mut proved.1, &mut proved.2);
+            let other = second::run(&row.file, &mut second.0, &mut second.1, &mut second.2);
+            assert_eq!(
+                answer.numbers().to_string(),
+                other.to_string(),
+                "{}",
+                row.name
+            );
+            assert!(proved == second, "{} with a record of {room}", row.name);
+        }
+    }
+}
 
 #[test]
 fn each_run_leaves_what_the_table_says() {

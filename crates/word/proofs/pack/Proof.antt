@@ -2,10 +2,12 @@
 -- Assumes nothing.
 use borrow.Author.Needs.{needs}
 use Prim.Native.Nat.{ℕ}
+use native.Mathlib.Omega.{arith}
 use mathlib.Core.Path.{ap, _∙_}
 use mathlib.Core.List.{List}
 use Rattle.little_endian.specs.Number.{numberAt}
-use Rattle.word.proofs.Words.{written-word}
+use Rattle.word.specs.Word.{turned, packed}
+use Rattle.word.proofs.Words.{written-body, turned-lt}
 use Rattle.word.proofs.pack.Statement.{statement}
 use Rattle.word.proofs.pack.Tie as tie
 
@@ -21,8 +23,17 @@ slice-aggregate-eight-at c = search needs
 eight-at-requires : tie.Need-eight-at-requires
 eight-at-requires c κs = search needs
 
+mul-result : tie.Need-mul-result
+mul-result c = search needs
+
+add-result : tie.Need-add-result
+add-result c = record { fits = turned-lt 16 48 (c .eight-at .result) (omega arith) }
+
 returns : tie.Need-returns
-returns c = c .eight-at .ensures ∙ ap (λ (sheet : List ℕ). numberAt 8 sheet 4) (c .before .before .before .write-sheet .ensures .1) ∙ written-word _
+unfolding packed
+returns c =
+    ap (turned 16 48)
+    (c .eight-at .ensures ∙ ap (λ (sheet : List ℕ). numberAt 8 sheet 4) (c .before .before .before .write-sheet .ensures .1) ∙ written-body _)
 
 pub pack-spec : {M : Type 1} → statement M
 pack-spec =
@@ -32,4 +43,6 @@ pack-spec =
     write-sheet-requires
     slice-aggregate-eight-at
     eight-at-requires
+    mul-result
+    add-result
     returns)
