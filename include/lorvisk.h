@@ -27,8 +27,9 @@ extern "C" {
 #endif
 
 /* An answer crosses as its word, a number of 64 bits: code, event, partner and peak, sixteen bits each, the code lowest. 0 is
- * no verdict. It is a struct here, so that no compiler takes it for a truth value or a code, and that it is not cut to an int;
- * a binding that has it as a number finds the code in its lowest bits, however few it keeps. */
+ * no verdict. It is a struct here, so that no compiler takes it for a truth value or a code, or cuts it to an int; it is handed
+ * over as the number is (x86-64, System V). A binding that has it as a number, or as less of it, finds the code in its lowest
+ * sixteen bits. */
 typedef struct {
     uint64_t bits;
 } lorvisk_word;

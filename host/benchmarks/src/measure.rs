@@ -5,7 +5,7 @@ use crate::cases::Case;
 use crate::judges::{Judge, PROVED, SIMPLE};
 use std::sync::atomic::{AtomicUsize, Ordering};
 use std::time::{Duration, Instant};
-use wrapper::{Answer, Numbers};
+use wrapper::Answer;
 
 /// A turn of a judge in a round takes at least this long, so that the clock's own steps don't count.
 const TURN: Duration = Duration::from_millis(2);
@@ -101,9 +101,9 @@ impl Measured {
 /// The time of so many calls of a judge on a file, all of which have to give this answer.
 pub fn time(judge: &Judge, file: &[u8], expected: Answer, calls: u64) -> Result<Duration, String> {
     let start = Instant::now();
-    let sum = sum_of_answers(judge, file, calls);
+    let right = right_answers(judge, file, expected, calls);
     let time = start.elapsed();
-    if sum == calls.wrapping_mul(in_one(expected)) {
+    if right == calls {
         Ok(time)
     } else {
         let judge = judge.name;
@@ -113,23 +113,10 @@ pub fn time(judge: &Judge, file: &[u8], expected: Answer, calls: u64) -> Result<
     }
 }
 
-/// What so many calls answer, added up: so every answer is needed.
-fn sum_of_answers(judge: &Judge, file: &[u8], calls: u64) -> u64 {
-    (0..calls).fold(0, |sum: u64, _| {
+/// How many of so many calls give this answer: so every answer is needed.
+fn right_answers(judge: &Judge, file: &[u8], expected: Answer, calls: u64) -> u64 {
+    (0..calls).fold(0, |right, _| {
         let file = &file[BEGINNING.load(Ordering::Relaxed)..];
-        sum.wrapping_add(in_one((judge.judge)(file)))
+        right + u64::from((judge.judge)(file) == expected)
     })
-}
-
-/// The four numbers of an answer in one.
-fn in_one(answer: Answer) -> u64 {
-    let Numbers {
-        code,
-        event,
-        partner,
-        peak,
-    } = answer.numbers();
-    [code, event, partner, peak]
-        .into_iter()
-        .fold(0, |all, number| all << 16 | u64::from(number))
 }
