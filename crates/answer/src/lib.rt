@@ -1,4 +1,7 @@
 // What the desk answers (document 01), and the verdict sheet that an answer is written on.
+
+#![tactic(auto)]
+
 mod sheet;
 mod table;
 

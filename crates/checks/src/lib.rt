@@ -1,4 +1,7 @@
 // The checks of an event by itself (document 01): fields, alignment, range.
+
+#![tactic(auto)]
+
 ghost use Rattle.std.specs.Prelude.{◌≡◌, ◌||◌, ◌+◌, leb};
 ghost use Rattle.little_endian.specs.Number.{is_zero};
 ghost use Rattle.event.specs.Addresses.{offset_of};

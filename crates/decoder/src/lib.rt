@@ -1,4 +1,7 @@
 // The decoder: from a kind and a body to an event, or to the first check that fails.
+
+#![tactic(auto)]
+
 mod bodies;
 
 ghost use Rattle.std.specs.Prelude.{◌≡◌, ◌≤◌};

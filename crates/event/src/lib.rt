@@ -1,4 +1,7 @@
 // What a trace records: the thread's accesses, the copies and reductions, the commits and waits (document 01).
+
+#![tactic(auto)]
+
 mod copies;
 mod fields;
 

@@ -1,4 +1,7 @@
 // An input of any length: its first bytes are kept, and all are counted.
+
+#![tactic(auto)]
+
 ghost use Rattle.std.specs.Prelude.{◌≡◌, min};
 ghost use Rattle.input.specs.Held.{Held, kept_in};
 

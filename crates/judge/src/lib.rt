@@ -1,5 +1,8 @@
 // The judge: one event at a time, or a whole file. What it keeps of open operations stands in two places that a host lends
 // to each step, `ranges` and `marks`, each of PLACE_LENGTH words or more.
+
+#![tactic(auto)]
+
 mod answering;
 mod file;
 mod stepping;

@@ -1,4 +1,7 @@
 // Numbers as a line of text: in decimal, with one space between and a newline after the last.
+
+#![tactic(auto)]
+
 ghost use Rattle.std.specs.Prelude.{◌≡◌, cond, ◌++◌, ◌∷◌, ◌+◌, ◌*◌, ◌≤◌, ◌<◌, eqb, length, take, drop};
 ghost use Rattle.io.specs.Counts.{IsPrefixLen};
 ghost use Rattle.line.specs.Text.{decimal_of, line_of, count_of, leaves_of, named_count, named_leaves};

@@ -1,4 +1,7 @@
 // Numbers in bytes, the lowest byte first.
+
+#![tactic(auto)]
+
 ghost use Rattle.std.specs.Prelude.{◌≡◌, length, ◌+◌, ◌≤◌, ◌<◌, ◌^◌};
 ghost use Rattle.std.proofs.lemmas.List.Edits.{sets};
 ghost use Rattle.little_endian.specs.Number.{number_at, bytes_of};

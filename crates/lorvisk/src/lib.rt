@@ -1,5 +1,8 @@
 // The C boundary: the functions that hosts in other languages call (include/lorvisk.h). A slice is handed over as a pointer
 // and a length; an answer crosses as its word, 0 being no verdict.
+
+#![tactic(auto)]
+
 ghost use Rattle.std.specs.Prelude.{◌≡◌};
 ghost use Rattle.answer.specs.Sheet.{read_of, is_written, write_leaves};
 ghost use Rattle.rules.specs.Answers.{answer_of_file};

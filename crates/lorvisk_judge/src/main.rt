@@ -2,6 +2,9 @@
 // With arguments: each is a file's name, and for each one line, `NAME code event partner peak`. What cannot be read to its
 // end has no verdict: twelve zero bytes, or `NAME 0 0 0 0`, and a line on standard error. Nor has a name that goes on after a
 // newline, where it could write another file's line: its own has what stands before that.
+
+#![tactic(auto)]
+
 ghost use Rattle.io.specs.Counts.{IsPrefixLen};
 
 use answer::{Answer, SHEET_LENGTH};

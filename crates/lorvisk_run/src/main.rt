@@ -2,6 +2,9 @@
 // record, whose length is its room. For each four, on standard output: the verdict sheet and, only where the file is
 // accepted, the load record, the global and the shared memory as the run leaves them. No file is changed. Where one cannot
 // be read to its end there is no verdict: twelve zero bytes, and a line on standard error.
+
+#![tactic(auto)]
+
 ghost use Rattle.std.specs.Prelude.{List, ℕ, ◌+◌, ◌^◌, ◌<◌};
 ghost use Rattle.input.specs.Held.{Held};
 

@@ -1,5 +1,8 @@
 // Reads a verdict sheet from standard input and writes its code, event, partner and peak to standard output, in one line.
 // Whatever is no sheet reads as code 0, no verdict.
+
+#![tactic(auto)]
+
 ghost use Rattle.std.specs.Prelude.{◌≡◌, cond};
 ghost use Rattle.answer.specs.Sheet.{read_of};
 ghost use Rattle.answer.specs.declared.Answer.TheVariants.{NoVerdict};

@@ -1,6 +1,9 @@
 // Reads a trace file from standard input and writes one line to standard output: the header (events, global length, shared
 // length) where every event decodes, else the code, event, partner and peak of the first of 2 to 7 that the file gets. An
 // input that cannot be read to its end gets the four numbers of no verdict.
+
+#![tactic(auto)]
+
 use answer::Answer;
 use input::Input;
 use libc::{STDIN_FILENO, STDOUT_FILENO};

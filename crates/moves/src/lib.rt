@@ -1,5 +1,8 @@
 // What an event does (document 01): a load appends to the load record, and a store, a copy, a bulk copy and a reduction
 // write one part of one memory, which is all that they are lent of it.
+
+#![tactic(auto)]
+
 mod copies;
 mod memory;
 mod thread;

@@ -1,5 +1,8 @@
 // The table of open operations: one record each, in event order, in the words of two lent places. Its records stand in
 // `ranges`, what they write and read, and in `marks`, the rest; each has four words in either place.
+
+#![tactic(auto)]
+
 mod clash;
 mod closing;
 mod table;

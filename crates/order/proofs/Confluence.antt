@@ -59,7 +59,7 @@ module _ {A : Type 0} where
     pub one-outcome : (o₁ o₂ : List A) → Once o₁ → Once o₂ → SameActions o₁ o₂
         → ((a b : A) → Before a b o₁ → Before b a o₂ → Commute exec a b) → (s : S) → runs exec o₁ s ≡ runs exec o₂ s
     one-outcome [] [] once₁ once₂ same commute s = refl
-    one-outcome (x ∷ o₁) [] once₁ once₂ same commute s = absurd (Memᴰ.not_nil ((same x).0 (Memᴰ.head refl)))
+    one-outcome (x ∷ o₁) [] once₁ once₂ same commute s = absurd (Memᴰ.not-nil ((same x).0 (Memᴰ.head refl)))
     one-outcome o₁ (a ∷ o₂) once₁ once₂ same commute s =
         let (rest, out) = take_out ((same a).1 (Memᴰ.head refl)) in
         to_front out (λ x h. commute x a h (first refl (in_tail (distinct once₁ h) ((same x).0 (first_in h))))) s

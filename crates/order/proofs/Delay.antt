@@ -38,7 +38,7 @@ module _ {A : Type 0} where
     before_in_keep pa pb (later {x = x} h) = before_under_head (p x) x (before_in_keep pa pb h)
 
     kept : {a : A} (o : List A) → a ∈ keep o → (a ∈ o) × (p a ≡ true)
-    kept [] m = absurd (Memᴰ.not_nil m)
+    kept [] m = absurd (Memᴰ.not-nil m)
     kept {a} (x ∷ o) m = at_head (p x) refl m (kept o)
       where
         deeper : (a ∈ o) × (p a ≡ true) → (a ∈ (x ∷ o)) × (p a ≡ true)

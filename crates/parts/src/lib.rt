@@ -1,4 +1,7 @@
 // What an event is to the table of open operations.
+
+#![tactic(auto)]
+
 ghost use Rattle.std.specs.Prelude.{◌≡◌, ◌<◌};
 ghost use Rattle.parts.specs.Parts.{bytes, access_part, load_part, store_part, copy_part, bulk_part, reduction_tag, commit_copies, commit_bulk, wait_copies, wait_bulk, part_of};
 

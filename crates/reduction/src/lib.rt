@@ -1,5 +1,8 @@
 // A reduction, on the bytes that are lent to it (document 01): each 4-byte element is set to destination combined with
 // source.
+
+#![tactic(auto)]
+
 mod element;
 
 ghost use Rattle.std.specs.Prelude.{◌≡◌, ◌+◌, ◌%◌, ◌≤◌, length, drop};

@@ -47,10 +47,10 @@ Happens (act i) e = is_operation e ≡ true
 
 in_operation : (t : Bool) (i : ℕ) {a : Action} → a ∈ acting t i → (a ≡ act i) × (t ≡ true)
 in_operation true i m = (Memᴰ.eq_of_singleton m, refl)
-in_operation false i m = absurd (Memᴰ.not_nil m)
+in_operation false i m = absurd (Memᴰ.not-nil m)
 
 alone : (t : Bool) (i : ℕ) {a b : Action} → ¬ Before a b (acting t i)
-alone true i (first e m) = Memᴰ.not_nil m
+alone true i (first e m) = Memᴰ.not-nil m
 alone true i (later h) = not_nil h
 alone false i h = not_nil h
 
@@ -70,7 +70,7 @@ record From (k : ℕ) (es : List Event) (a : Action) : Type 0 where
   happens : Happens a (event_at es place)
 
 in_from : (k : ℕ) (es : List Event) {a : Action} → a ∈ actions_from k es → From k es a
-in_from k [] m = absurd (Memᴰ.not_nil m)
+in_from k [] m = absurd (Memᴰ.not-nil m)
 in_from k (e ∷ es) {a} m = ⊎_elim (λ l. here (in_moments k e l)) (λ l. later_on (in_from (suc k) es l))
     (Memᴰ.append_cases (moments k e) m)
   where

@@ -76,7 +76,7 @@ module _ (chain : Chain) (es : List Event) where
 
   in_uncommitted : (w i : ℕ) → i ∈ (groups chain es w).uncommitted → Uncommitted i w
   unfolding groups commits
-  in_uncommitted zero i m = absurd (Memᴰ.not_nil m)
+  in_uncommitted zero i m = absurd (Memᴰ.not-nil m)
   in_uncommitted (suc w) i m = by_role (role chain (event_at es w)) refl m (in_uncommitted w i)
     where
       -- an event that makes no group leaves it uncommitted
@@ -88,8 +88,8 @@ module _ (chain : Chain) (es : List Event) where
       by_role operation e (Memᴰ.head f) ih =
           record { starts = rw f e; earlier = omega arith; none_since = rw (e, f) (omega arith) }
       by_role operation e (Memᴰ.tail k) ih = still operation e refl (ih k)
-      by_role commit e k ih = absurd (Memᴰ.not_nil k)
-      by_role wait_all e k ih = absurd (Memᴰ.not_nil k)
+      by_role commit e k ih = absurd (Memᴰ.not-nil k)
+      by_role wait_all e k ih = absurd (Memᴰ.not-nil k)
       by_role other e k ih = still other e refl (ih k)
       by_role (wait n) e k ih = still (wait n) e refl (ih k)
 
@@ -130,8 +130,8 @@ module _ (chain : Chain) (es : List Event) where
 
   in_made : (w n i : ℕ) → i ∈ all_of (drop n (groups chain es w).made) → Counted n i w
   unfolding groups commits
-  in_made zero zero i m = absurd (Memᴰ.not_nil m)
-  in_made zero (suc n) i m = absurd (Memᴰ.not_nil m)
+  in_made zero zero i m = absurd (Memᴰ.not-nil m)
+  in_made zero (suc n) i m = absurd (Memᴰ.not-nil m)
   in_made (suc w) n i m = by_role (role chain (event_at es w)) refl n m (λ k. in_made w k i)
     where
       up : (r : Role) (k n' : ℕ) → role chain (event_at es w) ≡ r → n' ≤ k + makes r → Counted k i w
@@ -218,13 +218,13 @@ pub data Closes (es : List Event) (i w : ℕ) : Type 0 where
 module _ (es : List Event) (i w : ℕ) where
   closed_in_lem : (chain : Chain) (r : Role) → role chain (event_at es w) ≡ r → i ∈ closes r (groups chain es w)
       → Closes es i w
-  closed_in_lem chain operation e m = absurd (Memᴰ.not_nil m)
-  closed_in_lem chain commit e m = absurd (Memᴰ.not_nil m)
+  closed_in_lem chain operation e m = absurd (Memᴰ.not-nil m)
+  closed_in_lem chain commit e m = absurd (Memᴰ.not-nil m)
   closed_in_lem chain wait_all e m = ⊎_elim
       (λ k. let u = in_uncommitted chain es w i k in by_wait_all chain e u.starts u.earlier)
       (λ k. let c = in_made chain es w 0 i k in by_wait_all chain e c.starts c.earlier)
       (Memᴰ.append_cases (groups chain es w).uncommitted m)
-  closed_in_lem chain other e m = absurd (Memᴰ.not_nil m)
+  closed_in_lem chain other e m = absurd (Memᴰ.not-nil m)
   closed_in_lem chain (wait n) e m = by_wait chain n e (in_made chain es w n i m)
 
   in_closed : (chain : Chain) → i ∈ closed_in chain es w → closed_by es i w ≡ true

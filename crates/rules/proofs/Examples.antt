@@ -44,13 +44,13 @@ late-all a = (there, back)
     there (Memᴰ.head e) = Memᴰ.head e
     there (Memᴰ.tail (Memᴰ.head e)) = Memᴰ.tail (Memᴰ.tail (Memᴰ.head e))
     there (Memᴰ.tail (Memᴰ.tail (Memᴰ.head e))) = Memᴰ.tail (Memᴰ.head e)
-    there (Memᴰ.tail (Memᴰ.tail (Memᴰ.tail m))) = absurd (Memᴰ.not_nil m)
+    there (Memᴰ.tail (Memᴰ.tail (Memᴰ.tail m))) = absurd (Memᴰ.not-nil m)
 
     back : a ∈ late → a ∈ actions_of unwaited
     back (Memᴰ.head e) = Memᴰ.head e
     back (Memᴰ.tail (Memᴰ.head e)) = Memᴰ.tail (Memᴰ.tail (Memᴰ.head e))
     back (Memᴰ.tail (Memᴰ.tail (Memᴰ.head e))) = Memᴰ.tail (Memᴰ.head e)
-    back (Memᴰ.tail (Memᴰ.tail (Memᴰ.tail m))) = absurd (Memᴰ.not_nil m)
+    back (Memᴰ.tail (Memᴰ.tail (Memᴰ.tail m))) = absurd (Memᴰ.not-nil m)
 
 abbrev position : Action → ℕ
 position (turn i) = i
@@ -59,10 +59,10 @@ position (act i) = suc (suc i)
 late_positions : {a b : Action} → Before a b late → position a < position b
 late_positions (first e (Memᴰ.head f)) = rw (e, f) (omega arith)
 late_positions (first e (Memᴰ.tail (Memᴰ.head f))) = rw (e, f) (omega arith)
-late_positions (first e (Memᴰ.tail (Memᴰ.tail m))) = absurd (Memᴰ.not_nil m)
+late_positions (first e (Memᴰ.tail (Memᴰ.tail m))) = absurd (Memᴰ.not-nil m)
 late_positions (later (first e (Memᴰ.head f))) = rw (e, f) (omega arith)
-late_positions (later (first e (Memᴰ.tail m))) = absurd (Memᴰ.not_nil m)
-late_positions (later (later (first e m))) = absurd (Memᴰ.not_nil m)
+late_positions (later (first e (Memᴰ.tail m))) = absurd (Memᴰ.not-nil m)
+late_positions (later (later (first e m))) = absurd (Memᴰ.not-nil m)
 late_positions (later (later (later h))) = absurd (not_nil h)
 
 late-keeps : (a b : Action) → a ∈ actions_of unwaited → b ∈ actions_of unwaited → Must unwaited a b → Before a b late

@@ -120,13 +120,13 @@ lowered_role Bulk r (waited.Lowered.bulk_wait l) h ne = absurd (ne (rw (← h) t
 -- an event with an access is not lowered
 lowered_same : {e e' : Event} {x : Access} → Lowered e e' → x ∈ accesses e' → e ≡ e'
 lowered_same same m = refl
-lowered_same (waited.Lowered.wait l) m = absurd (Memᴰ.not_nil m)
-lowered_same (waited.Lowered.bulk_wait l) m = absurd (Memᴰ.not_nil m)
+lowered_same (waited.Lowered.wait l) m = absurd (Memᴰ.not-nil m)
+lowered_same (waited.Lowered.bulk_wait l) m = absurd (Memᴰ.not-nil m)
 
 wait_no_access : {e : Event} {x : Access} → MayAdd e → ¬ (x ∈ accesses e)
-wait_no_access waited.MayAdd.wait m = Memᴰ.not_nil m
-wait_no_access waited.MayAdd.wait_all m = Memᴰ.not_nil m
-wait_no_access waited.MayAdd.bulk_wait m = Memᴰ.not_nil m
+wait_no_access waited.MayAdd.wait m = Memᴰ.not-nil m
+wait_no_access waited.MayAdd.wait_all m = Memᴰ.not-nil m
+wait_no_access waited.MayAdd.bulk_wait m = Memᴰ.not-nil m
 
 -- ---- at least as many groups are made between two events
 commits_cons : (chain : Chain) (e : Event) (es : List Event) (w : ℕ)

@@ -1,4 +1,7 @@
 // A trace file, run over two lent memories and a load record (document 01).
+
+#![tactic(auto)]
+
 mod events;
 
 ghost use Rattle.std.specs.Prelude.{◌≡◌, List, ℕ, ◌≤◌, length, take};

@@ -1,6 +1,9 @@
 // The trace file (document 01): header, table and bodies. A caller that holds only the beginning of a longer file hands that
 // over with the file's length; the whole file is a beginning too. Its first body starts at `entry_at(events)` and each other
 // where the one before ends, so that a walk over the events passes each byte once.
+
+#![tactic(auto)]
+
 mod items;
 mod table;
 

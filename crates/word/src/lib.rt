@@ -1,4 +1,7 @@
 // An answer as one number of 64 bits, its word: the form in which it crosses to a host in another language.
+
+#![tactic(auto)]
+
 ghost use Rattle.std.specs.Prelude.{◌≡◌};
 ghost use Rattle.word.specs.Word.{packed, unpacked};
 
