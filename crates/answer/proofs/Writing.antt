@@ -6,9 +6,8 @@ use mathlib.Core.Bool.{Bool, true, false, ◌&&◌}
 use mathlib.Core.List.{List, ◌++◌}
 use native.Mathlib.Omega.{arith}
 use lib.Dec.{leb}
-use lib.ListN.{length, take, drop}
+use lib.ListN.{length, drop}
 use borrow.Author.Tests.{leb-true}
-use Rattle.little_endian.specs.Number.{bytes_of}
 use Rattle.little_endian.proofs.Tests.{both}
 use Rattle.answer.specs.declared.Answer.{Answer}
 use Rattle.answer.specs.declared.Answer.TheVariants.{NotWritten}
@@ -52,11 +51,5 @@ module _ (answer : Answer) (out : List ℕ) where
 
 -- A copy of the whole sheet leaves the sheet, and the bytes past it.
 pub copied : (answer : Answer) (n : Numbers) (sheet out : List ℕ) → n ≡ numbers_of answer → sheet ≡ laid_out n
-    → take (length sheet) sheet ++ drop (length sheet) out ≡ sheet_of answer ++ drop 12 out
-unfolding bytes_of
+    → sheet ++ drop 12 out ≡ sheet_of answer ++ drop 12 out
 copied answer n sheet out m h = rw (h, m)
-
--- The sheet fits where the test holds.
-pub room : (n : Numbers) (fits : Bool) (sheet out : List ℕ) → (leb 12 (length out) && fits) ≡ true → sheet ≡ laid_out n → length sheet ≤ length out
-unfolding bytes_of
-room n fits sheet out h e = rw e (leb-true 12 (length out) (both (leb 12 (length out)) fits h).0)

@@ -14,7 +14,7 @@ pub use sheet::{SHEET_LENGTH, read_sheet, write_sheet};
 pub const EVENT_LIMIT: u32 = 1024;
 
 // A case for each code of the table, 0 to 12, with just the numbers that the table names.
-#[derive(Drop)]
+#[derive(Clone, Copy)]
 pub enum Answer {
     NoVerdict,
     Accepted { events: u32, peak: u32 },
@@ -32,7 +32,7 @@ pub enum Answer {
 }
 
 // An answer as document 01 writes it. A number that the table does not name is 0.
-#[derive(Drop)]
+#[derive(Clone, Copy)]
 pub struct Numbers {
     pub code: u32,
     pub event: u32,

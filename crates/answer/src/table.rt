@@ -5,7 +5,7 @@ ghost use Rattle.answer.specs.Table.{named_by, fit_named, fit};
 use crate::{EVENT_LIMIT, Numbers};
 
 // The numbers that a code names besides itself.
-#[derive(Drop)]
+#[derive(Clone, Copy)]
 pub(crate) enum Named {
     // No sheet has the code.
     Unread,

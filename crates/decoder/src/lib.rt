@@ -11,7 +11,7 @@ use answer::Answer;
 use event::Event;
 
 // What a body of a kind decodes as: an event, or the first check that it fails.
-#[derive(Drop)]
+#[derive(Clone, Copy)]
 pub enum Item {
     Decoded(Event),
     UnknownKind,

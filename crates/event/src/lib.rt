@@ -9,21 +9,21 @@ pub use copies::bytes_read;
 pub use fields::{operation_number, type_number};
 
 // An address counts the bytes of one memory from 0. The two are numbers of different kinds: neither stands for the other.
-#[derive(Drop)]
+#[derive(Clone, Copy)]
 pub struct GlobalAddress(pub u32);
 
-#[derive(Drop)]
+#[derive(Clone, Copy)]
 pub struct SharedAddress(pub u32);
 
 // Where a load reads or a store writes.
-#[derive(Drop)]
+#[derive(Clone, Copy)]
 pub enum Address {
     Global(GlobalAddress),
     Shared(SharedAddress),
 }
 
 // What a copy reads of its source.
-#[derive(Drop)]
+#[derive(Clone, Copy)]
 pub enum Mode {
     // cp-size bytes
     Plain,
@@ -33,13 +33,13 @@ pub enum Mode {
     SourceIgnored,
 }
 
-#[derive(Drop)]
+#[derive(Clone, Copy)]
 pub enum Cache {
     Ca,
     Cg,
 }
 
-#[derive(Drop)]
+#[derive(Clone, Copy)]
 pub enum Operation {
     And,
     Or,
@@ -49,7 +49,7 @@ pub enum Operation {
     Max,
 }
 
-#[derive(Drop)]
+#[derive(Clone, Copy)]
 pub enum ElementType {
     B32,
     U32,
@@ -57,7 +57,7 @@ pub enum ElementType {
 }
 
 // One recorded event, with all that its body says.
-#[derive(Drop)]
+#[derive(Clone, Copy)]
 pub enum Event {
     Load {
         address: Address,

@@ -15,7 +15,7 @@ use parts::GroupsMade;
 pub const PLACE_LENGTH: usize = 4 * (EVENT_LIMIT as usize);
 
 // The judge between two events. Once something is refused, it only counts the events that follow.
-#[derive(Drop)]
+#[derive(Clone, Copy)]
 pub struct State {
     pub events: u32,
     // The largest number of operations open after any event, and how many are open now.

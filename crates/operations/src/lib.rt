@@ -12,7 +12,7 @@ pub use closing::close;
 pub use table::{first_clash, put};
 
 // Bytes of one memory. They may reach past its end, and past the last number of an address.
-#[derive(Drop)]
+#[derive(Clone, Copy)]
 pub struct Range {
     pub start: u32,
     pub length: u32,
@@ -20,7 +20,7 @@ pub struct Range {
 
 // An open operation, or an event that is compared with it: what it writes and reads, its event, how many groups its chain
 // had made when it started, and its tag.
-#[derive(Drop)]
+#[derive(Clone, Copy)]
 pub struct Record {
     pub writes: Range,
     pub reads: Range,
@@ -30,20 +30,20 @@ pub struct Record {
 }
 
 // What two records have to do with each other.
-#[derive(Drop)]
+#[derive(Clone, Copy)]
 pub(crate) struct Sharing {
     pub clash: bool,
 }
 
 // The event that another clashes with.
-#[derive(Drop)]
+#[derive(Clone, Copy)]
 pub enum Partner {
     Event(u32),
     Nobody,
 }
 
 // A wait on a chain: how many groups the chain has made, and how many of the newest stay open.
-#[derive(Drop)]
+#[derive(Clone, Copy)]
 pub struct Wait {
     pub chain: u32,
     pub commits: u32,

@@ -12,13 +12,13 @@ use event::{
 use operations::{Range, Record, Wait};
 
 // How many groups each chain has made: that of the non-bulk copies, and the bulk one.
-#[derive(Drop)]
+#[derive(Clone, Copy)]
 pub struct GroupsMade {
     pub copies: u32,
     pub bulk: u32,
 }
 
-#[derive(Drop)]
+#[derive(Clone, Copy)]
 pub enum Part {
     // A load or a store.
     Access(Record),

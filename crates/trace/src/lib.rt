@@ -12,7 +12,7 @@ pub use items::{ENOUGH, check, entry_of, item_at};
 pub use table::{MEMORY_LIMIT, entry_at, shape_of};
 
 // The number of events and the lengths of the two memories.
-#[derive(Drop)]
+#[derive(Clone, Copy)]
 pub struct Header {
     pub events: u32,
     pub global: u32,
@@ -20,13 +20,13 @@ pub struct Header {
 }
 
 // An event's kind and the length of its body.
-#[derive(Drop)]
+#[derive(Clone, Copy)]
 pub struct Entry {
     pub kind: u8,
     pub length: u32,
 }
 
-#[derive(Drop)]
+#[derive(Clone, Copy)]
 pub enum Shape {
     Formed(Header),
     Refused(Answer),
