@@ -1,0 +1,11 @@
+-- `decoder::bodies::bulk_wait` meets its contract: a body of its kind's length says what the definition reads off it.
+use mathlib.Core.Path.{sym}
+use Rattle.decoder.specs.Bodies.{bulk_wait_in}
+use Rattle.decoder.proofs.Lengths.{right_length, wrong_length}
+use Rattle.decoder.proofs.bodies.bulk_wait.Goals as goal
+
+pub returns-then-body-ne4 : goal.returns-then-body-ne4
+returns-then-body-ne4 c = sym (wrong_length 4 bulk_wait_in _ c.if-body-ne4.true)
+
+pub returns : goal.returns
+returns c = rw c.four_at.ensures.0 (sym (right_length 4 bulk_wait_in _ c.if-body-ne4.false))
