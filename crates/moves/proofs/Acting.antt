@@ -7,15 +7,12 @@ use mathlib.Core.Path.{◌≡◌, refl, sym, ap, ap₂, ◌∙◌}
 use mathlib.Core.Bool.{true}
 use mathlib.Core.Logic.{⊎_elim}
 use mathlib.Core.List.{List, [], ◌∷◌}
-use denote.Enum.Declared.{tag_of}
-use types.Run.{OneOf, miss}
 use borrow.Rule.Slice.PartMut.{put_mid}
 use lib.ListN.{length}
 use lib.Dec.{leb}
 use borrow.Author.Tests.{eqb-true, leb-true}
 use Rattle.little_endian.specs.Number.{is_zero}
 use Rattle.little_endian.proofs.Tests.{both, all_three, or_cases}
-use Rattle.event.specs.contracts.Event.{the_type}
 use Rattle.event.specs.declared.Address.{Address}
 use Rattle.event.specs.declared.Address.TheVariants as address
 use Rattle.event.specs.declared.Cache.{Cache}
@@ -146,16 +143,16 @@ loaded at size m new fits room e = by_address at fits e
     by_address (address.Shared a) fits e = appended (read m.shared a.0 size) (length-read m.shared a.0 size fits) e
 
 -- an event of another variant than the first is no load
-pub no_load : (e : Event) → OneOf (1 ∷ 2 ∷ 3 ∷ 4 ∷ 5 ∷ 6 ∷ 7 ∷ 8 ∷ 9 ∷ []) (tag_of the_type e)
+pub no_load : (e : Event) → ((at : Address) (size : ℕ) → e ≡ Load at size → ⊥)
     → (0 ≡ load_size e) × ((global shared : List ℕ) → (moved e global shared).loaded ≡ [] ∷ [])
-no_load (Load at size) tag = absurd (miss (1 ∷ 2 ∷ 3 ∷ 4 ∷ 5 ∷ 6 ∷ 7 ∷ 8 ∷ 9 ∷ []) 0 tt tag)
-no_load (Store (address.Global at) size low high) tag = (refl, λ global shared. refl)
-no_load (Store (address.Shared at) size low high) tag = (refl, λ global shared. refl)
-no_load (Copy dst src cpSize mode cache) tag = (refl, λ global shared. refl)
-no_load Commit tag = (refl, λ global shared. refl)
-no_load (Wait n) tag = (refl, λ global shared. refl)
-no_load WaitAll tag = (refl, λ global shared. refl)
-no_load (BulkCopy dst src size) tag = (refl, λ global shared. refl)
-no_load (BulkReduction dst src size operation element) tag = (refl, λ global shared. refl)
-no_load BulkCommit tag = (refl, λ global shared. refl)
-no_load (BulkWait n) tag = (refl, λ global shared. refl)
+no_load (Load at size) other = absurd (other at size refl)
+no_load (Store (address.Global at) size low high) other = (refl, λ global shared. refl)
+no_load (Store (address.Shared at) size low high) other = (refl, λ global shared. refl)
+no_load (Copy dst src cpSize mode cache) other = (refl, λ global shared. refl)
+no_load Commit other = (refl, λ global shared. refl)
+no_load (Wait n) other = (refl, λ global shared. refl)
+no_load WaitAll other = (refl, λ global shared. refl)
+no_load (BulkCopy dst src size) other = (refl, λ global shared. refl)
+no_load (BulkReduction dst src size operation element) other = (refl, λ global shared. refl)
+no_load BulkCommit other = (refl, λ global shared. refl)
+no_load (BulkWait n) other = (refl, λ global shared. refl)

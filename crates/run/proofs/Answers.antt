@@ -5,13 +5,10 @@ use native.Mathlib.Omega.{arith}
 use mathlib.Core.Path.{◌≡◌, refl, sym, ap, ap₂, subst, ◌∙◌}
 use mathlib.Core.Bool.{Bool, true, false}
 use mathlib.Core.List.{List, [], ◌∷◌}
-use denote.Enum.Declared.{tag_of}
-use types.Run.{OneOf, miss}
 use lib.Dec.{eqb}
 use lib.ListN.{length, take}
 use borrow.Author.Tests.{eqb-true, eqb-false, eq-eqb, ne_eqb, le-leb, lt-leb}
 use Rattle.little_endian.proofs.Tests.{both}
-use Rattle.answer.specs.contracts.Answer.{the_type}
 use Rattle.answer.specs.declared.Answer.{Answer}
 use Rattle.answer.specs.declared.Answer.TheVariants as answer
 use Rattle.answer.specs.Table.{event_limit}
@@ -34,20 +31,20 @@ use Rattle.run.proofs.Acted.{every_order}
 
 -- ---- refusals
 -- an answer of another variant than the second is none
-pub no_acceptance : (a : Answer) → OneOf (0 ∷ 2 ∷ 3 ∷ 4 ∷ 5 ∷ 6 ∷ 7 ∷ 8 ∷ 9 ∷ 10 ∷ 11 ∷ 12 ∷ []) (tag_of the_type a) → ¬ IsAccepted a
-no_acceptance answer.NoVerdict tag h = omega (arith, h)
-no_acceptance (answer.Accepted events peak) tag h = miss (0 ∷ 2 ∷ 3 ∷ 4 ∷ 5 ∷ 6 ∷ 7 ∷ 8 ∷ 9 ∷ 10 ∷ 11 ∷ 12 ∷ []) 1 tt tag
-no_acceptance answer.WrongShape tag h = omega (arith, h)
-no_acceptance answer.TooManyEvents tag h = omega (arith, h)
-no_acceptance answer.WrongMemoryLength tag h = omega (arith, h)
-no_acceptance (answer.UnknownKind event) tag h = omega (arith, h)
-no_acceptance (answer.WrongBodyLength event) tag h = omega (arith, h)
-no_acceptance (answer.FieldNotAllowed event) tag h = omega (arith, h)
-no_acceptance (answer.Misaligned event) tag h = omega (arith, h)
-no_acceptance (answer.OutOfRange event) tag h = omega (arith, h)
-no_acceptance (answer.Clash event partner) tag h = omega (arith, h)
-no_acceptance (answer.NoRoom event) tag h = omega (arith, h)
-no_acceptance answer.NotWritten tag h = omega (arith, h)
+pub no_acceptance : (a : Answer) → ((events peak : ℕ) → a ≡ answer.Accepted events peak → ⊥) → ¬ IsAccepted a
+no_acceptance answer.NoVerdict other h = omega (arith, h)
+no_acceptance (answer.Accepted events peak) other h = other events peak refl
+no_acceptance answer.WrongShape other h = omega (arith, h)
+no_acceptance answer.TooManyEvents other h = omega (arith, h)
+no_acceptance answer.WrongMemoryLength other h = omega (arith, h)
+no_acceptance (answer.UnknownKind event) other h = omega (arith, h)
+no_acceptance (answer.WrongBodyLength event) other h = omega (arith, h)
+no_acceptance (answer.FieldNotAllowed event) other h = omega (arith, h)
+no_acceptance (answer.Misaligned event) other h = omega (arith, h)
+no_acceptance (answer.OutOfRange event) other h = omega (arith, h)
+no_acceptance (answer.Clash event partner) other h = omega (arith, h)
+no_acceptance (answer.NoRoom event) other h = omega (arith, h)
+no_acceptance answer.NotWritten other h = omega (arith, h)
 
 -- a run with a refusal for an answer leaves all as it was
 ran_refused : (contents : Contents) (before : Lent) (a : Answer) → a ≡ answer_of_run contents before → ¬ IsAccepted a

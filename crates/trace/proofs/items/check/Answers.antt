@@ -7,8 +7,7 @@ use Rattle.trace.proofs.items.check.Goals as goal
 
 pub check_items-requires : goal.check_items-requires
 check_items-requires c =
-    let formed = c.shape-1.given in
-    let known = counted event_limit _ _ formed.0.0 (sym c.shape_of-shape.ensures ∙ formed.1) in
+    let known = counted event_limit _ _ c.in-Formed.header (sym c.shape_of-shape.ensures ∙ c.in-Formed.is) in
     record {
       events_value = known.0;
       events_le_event_limit = known.1;

@@ -26,7 +26,7 @@ returns-in_default c =
     let same = called.ensures ∙ here in
     rw (c.refusal.ensures, same)
     (sym (found (held_item_in f) loop.event _ _ (omega arith) loop.invariant.2
-    (rw (← same) (undecoded called.result c.in-Decoded.keys2))))
+    (rw (← same) (undecoded called.result c.in_default.not-Decoded))))
 
 pub loop-event-preserved : goal.loop-event-preserved
 loop-event-preserved c =

@@ -2,7 +2,6 @@
 use native.Mathlib.Omega.{arith}
 use mathlib.Core.Path.{sym, refl, ap, ◌∙◌}
 use mathlib.Core.Bool.{true, false}
-use borrow.Author.Tests.{not-true, not-false}
 use Rattle.answer.specs.Table.{event_limit}
 use Rattle.trace.specs.declared.Header.{Header}
 use Rattle.trace.proofs.Shapes.{too_many, by_tests}
@@ -17,19 +16,19 @@ pub returns-then-not-is_shape : goal.returns-then-not-is_shape
 returns-then-not-is_shape c =
     let header = c.header_in-header in
     by_tests event_limit _ _ header.result false _ (omega arith) (omega arith) header.ensures (omega arith)
-    (sym (not-true _ c.if-not-is_shape.true) ∙ c.is_shape.ensures)
+    (sym c.if-not-is_shape.true ∙ c.is_shape.ensures)
     refl
 
 pub returns-then-header : goal.returns-then-header
 returns-then-header c =
     let header = c.header_in-header in
     by_tests event_limit _ _ header.result true true (omega arith) (omega arith) header.ensures (omega arith)
-    (sym (not-false _ c.if-not-is_shape.false) ∙ c.is_shape.ensures)
+    (sym c.if-not-is_shape.false ∙ c.is_shape.ensures)
     c.if-header.true
 
 pub returns-else-header : goal.returns-else-header
 returns-else-header c =
     let header = c.header_in-header in
     by_tests event_limit _ _ header.result true false (omega arith) (omega arith) header.ensures (omega arith)
-    (sym (not-false _ c.if-not-is_shape.false) ∙ c.is_shape.ensures)
+    (sym c.if-not-is_shape.false ∙ c.is_shape.ensures)
     c.if-header.false
