@@ -31,11 +31,11 @@ use Rattle.judge.proofs.Telling.{opening-left, told, told-left}
 -- ---- the answers
 -- steps carry on what the judge left, item by item
 steps-left : {lengths : Lengths} (items before : List Item) (after : After)
-    → AsLeft lengths before after.state after.ranges-2 after.marks
-    → AsLeft lengths (before ++ items) (steps items after).state (steps items after).ranges-2 (steps items after).marks
+    → AsLeft lengths before after.state after.ranges after.marks
+    → AsLeft lengths (before ++ items) (steps items after).state (steps items after).ranges (steps items after).marks
 steps-left [] before after left = rw append-nil left
 steps-left {lengths} (item ∷ items) before after left =
-    let next = step_of item after.state after.ranges-2 after.marks in
+    let next = step_of item after.state after.ranges after.marks in
     let last = steps items next in
     subst (λ l. AsLeft lengths l last.state last.ranges last.marks) (append_assoc before (item ∷ []) items)
     (steps-left items (before ++ item ∷ []) next (step_carries left item).left)

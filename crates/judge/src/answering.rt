@@ -17,7 +17,7 @@ impl State {
     // The state before the first event of a list under these memory lengths. Places of any contents go with it.
     pub fn opening(global: u32, shared: u32) -> State
         ensures value { result ≡ opened (record { global = global; shared = shared }) }
-        ensures by_index { (ranges marks : List ℕ) → place_length ≤ length ranges → place_length ≤ length marks → AsLeft (record { global = global; shared = shared }) [] result ranges marks }
+        ensures as_left { (ranges marks : List ℕ) → place_length ≤ length ranges → place_length ≤ length marks → AsLeft (record { global = global; shared = shared }) [] result ranges marks }
     {
         let state = State {
             events: 0,
@@ -38,8 +38,8 @@ impl State {
     // The answer of the list so far, taken as a whole list. A state that no judge leaves is refused as a wrong shape,
     // where that shows.
     pub fn answer(self) -> Answer
-        ensures value { (lengths : Lengths) (items : List Item) (ranges marks : List ℕ) → AsLeft lengths items self ranges marks → result ≡ answer_of lengths items }
-        ensures value_2 { result ≡ answer_in self }
+        ensures as_judged { (lengths : Lengths) (items : List Item) (ranges marks : List ℕ) → AsLeft lengths items self ranges marks → result ≡ answer_of lengths items }
+        ensures value { result ≡ answer_in self }
         ensures given { Given result }
     {
         let refusal = self.refusal;

@@ -20,7 +20,7 @@ pub fn judge(file: &[u8]) -> Answer
 
 // The answer of a file of `total` bytes, by its first bytes: `trace::ENOUGH` of them are enough.
 pub fn judge_beginning(beginning: &[u8], total: usize) -> Answer
-    ensures by_index { (file : List ℕ) (held : ℕ) → enough event_limit ≤ held → beginning.now ≡ take held file → total ≡ length file → result ≡ answer_of_file file }
+    ensures of_a_file { (file : List ℕ) (held : ℕ) → enough event_limit ≤ held → beginning.now ≡ take held file → total ≡ length file → result ≡ answer_of_file file }
     ensures value { result ≡ answer_of_beginning beginning.now total }
 {
     match trace::shape_of(beginning, total) {

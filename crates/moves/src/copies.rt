@@ -30,7 +30,8 @@ fn copy_padded(source: &[u8], destination: &mut [u8])
     requires { length source.now ≤ length destination.old }
     ensures { destination.new ≡ padded (length destination.old) source.now }
 {
-    let count = bytes::copy(source, destination);
+    let count = source.len();
+    destination[..count].copy_from_slice(source);
     clear(&mut destination[count..]);
 }
 

@@ -33,7 +33,7 @@ pub(crate) fn write_global(global: &mut [u8], at: GlobalAddress, source: &[u8])
 {
     let start = at.0 as usize;
     let end = start + source.len();
-    bytes::copy(source, &mut global[start..end]);
+    global[start..end].copy_from_slice(source);
 }
 
 pub(crate) fn write_shared(shared: &mut [u8], at: SharedAddress, source: &[u8])
@@ -42,5 +42,5 @@ pub(crate) fn write_shared(shared: &mut [u8], at: SharedAddress, source: &[u8])
 {
     let start = at.0 as usize;
     let end = start + source.len();
-    bytes::copy(source, &mut shared[start..end]);
+    shared[start..end].copy_from_slice(source);
 }

@@ -16,12 +16,8 @@ pub(crate) fn load(address: Address, size: u32, global: &[u8], shared: &[u8], to
     ensures { to.new ≡ get (memory_of address) (offset_of address) size (initial global.now shared.now 1) }
 {
     match address {
-        Address::Global(at) => {
-            bytes::copy(global_part(global, at, size), to);
-        }
-        Address::Shared(at) => {
-            bytes::copy(shared_part(shared, at, size), to);
-        }
+        Address::Global(at) => to.copy_from_slice(global_part(global, at, size)),
+        Address::Shared(at) => to.copy_from_slice(shared_part(shared, at, size)),
     }
 }
 
