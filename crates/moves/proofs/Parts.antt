@@ -7,7 +7,7 @@ use native.Mathlib.Omega.{arith}
 use mathlib.Core.Path.{◌≡◌, refl, sym, ap, ap₂, ◌∙◌}
 use mathlib.Core.List.{List, [], ◌∷◌, ◌++◌, append_assoc, append-nil}
 use lib.ListN.{length, get_or, set, take, drop, replicate, length-take, length-drop, length-append, length-replicate, drop_of_length-le, replicate-append-replicate}
-use lib.Seq.{sets-eq, set_at, drop-cons, drop-drop, take_all, take-append-add, take_at}
+use lib.Seq.{sets-eq, set_at, drop-cons, drop-drop, take-append-add, take_at}
 use borrow.Rule.Slice.PartMut.{put_mid}
 use Rattle.effect.specs.Memory.{read, write}
 use Rattle.effect.specs.Effect.{padded}
@@ -37,22 +37,10 @@ part-changed f m changed at size fits long e =
     let made = e ∙ ap f (part-read m at size) in
     part-back m changed at size fits (ap length made ∙ long) ∙ ap (write m at) made
 
--- a copy to as many bytes leaves those of the source
-pub copied_all : (source old copied : List ℕ) → length old ≡ length source
-    → copied ≡ take (length source) source ++ drop (length source) old → copied ≡ source
-copied_all source old copied same e =
-    e
-    ∙ ap₂ ◌++◌ (take_all (length source) source (omega arith)) (drop_of_length-le old {i = length source} (omega arith))
-    ∙ append-nil source
-
--- so does a copy to a part
-pub copy-back : (m source copied : List ℕ) (at : ℕ) → at + length source ≤ length m
-    → copied ≡ take (length source) source ++ drop (length source) (take (at + length source - at) (drop at m))
+-- so does a copy to the part
+pub copy-back : (m source copied : List ℕ) (at : ℕ) → at + length source ≤ length m → copied ≡ source
     → put_mid at (at + length source - at) m copied ≡ write m at source
-copy-back m source copied at fits e =
-    let long = ap length (part-read m at (length source)) ∙ length-read m at (length source) fits in
-    let all = copied_all source (take (at + length source - at) (drop at m)) copied long e in
-    part-back m copied at (length source) fits (ap length all) ∙ ap (write m at) all
+copy-back m source copied at fits e = part-back m copied at (length source) fits (ap length e) ∙ ap (write m at) e
 
 -- bytes not read are zero
 padded-is : (bytes : List ℕ) (rest size : ℕ) → length bytes + rest ≡ size → bytes ++ replicate rest 0 ≡ padded size bytes
@@ -70,28 +58,28 @@ pub length-padded : (bytes : List ℕ) (size : ℕ) → length (padded size byte
 length-padded bytes size = rw (length-take, length-append, length-replicate) (omega arith)
 
 -- a copy, and zeros for the rest
-pub padded-back : (source destination copied zeros : List ℕ) (n : ℕ) → n ≡ length source → length source ≤ length destination
-    → copied ≡ take (length source) source ++ drop (length source) destination
-    → zeros ≡ replicate (length (take (length copied - n) (drop n copied))) 0
-    → put_mid n (length copied - n) copied zeros ≡ padded (length destination) source
-padded-back source destination copied zeros n is fits e z =
+pub padded-back : (source destination copied zeros : List ℕ) → length source ≤ length destination
+    → copied ≡ source ++ drop (length source) destination
+    → zeros ≡ replicate (length (take (length copied - length source) (drop (length source) copied))) 0
+    → put_mid (length source) (length copied - length source) copied zeros ≡ padded (length destination) source
+padded-back source destination copied zeros fits e z =
     ap₂ (λ first rest. first ++ (zeros ++ rest)) first none
     ∙ ap (λ l. source ++ l) (append-nil zeros ∙ z ∙ ap (λ k. replicate k 0) rest)
     ∙ padded-is source (length destination - length source) (length destination) (omega arith)
   where
     long : length copied ≡ length destination
-    long = rw (e, length-append, length-take, length-drop) (omega arith)
+    long = rw (e, length-append, length-drop) (omega arith)
 
-    first : take n copied ≡ source
-    first =
-        rw (e, is, take_all (length source) source (omega arith))
-        (take_at source (drop (length source) destination) (length source) refl)
+    first : take (length source) copied ≡ source
+    first = rw e (take_at source (drop (length source) destination) (length source) refl)
 
-    none : drop (length copied - n) (drop n copied) ≡ []
-    none = drop_of_length-le (drop n copied) {i = length copied - n} (rw length-drop (omega arith))
+    none : drop (length copied - length source) (drop (length source) copied) ≡ []
+    none =
+        drop_of_length-le (drop (length source) copied) {i = length copied - length source}
+        (rw length-drop (omega arith))
 
-    rest : length (take (length copied - n) (drop n copied)) ≡ length destination - length source
-    rest = rw (length-take, length-drop) (omega (arith, is, long))
+    rest : length (take (length copied - length source) (drop (length source) copied)) ≡ length destination - length source
+    rest = rw (length-take, length-drop) (omega (arith, long))
 
 -- ---- clearing
 -- the first i bytes are cleared

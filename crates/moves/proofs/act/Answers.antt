@@ -30,4 +30,4 @@ returns-in_default c =
     let m = memories a.global.now a.shared.now a.loads.now a.filled in
     let written = c.move_bytes.ensures in
     ap₂ (λ global shared. memories global shared m.loads m.filled) written.global_after written.shared_after
-    ∙ silent a.event m ((no_load a.event c.in-Load.keys2).1 m.global m.shared)
+    ∙ silent a.event m ((no_load a.event c.in_default.not-Load).1 m.global m.shared)

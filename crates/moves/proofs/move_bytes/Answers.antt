@@ -6,7 +6,12 @@ use Rattle.moves.proofs.Acting.{store-fits, copy-fits, bulk-copy-fits, reduction
 use Rattle.moves.proofs.move_bytes.Goals as goal
 
 pub store-requires : goal.store-requires
-store-requires c = store-fits _ _ _ _ _ (rw c.in-Store.is at c.requires)
+store-requires c =
+    let fits = store-fits _ _ _ _ _ (rw c.in-Store.is at c.requires) in
+    record {
+      size_in_bounds = fits.0;
+      size_bound = fits.1;
+    }
 
 pub copy-requires : goal.copy-requires
 copy-requires c =
