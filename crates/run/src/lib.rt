@@ -30,7 +30,7 @@ pub fn run_beginning(
     shared: &mut [u8],
     loads: &mut [u8],
 ) -> Answer
-    ensures by_index { (file : List ℕ) (held : ℕ) → enough event_limit ≤ held → beginning.now ≡ take held file → total ≡ length file → Ran (file_of event_limit file) (lent global.old shared.old loads.old) result (lent global.new shared.new loads.new) }
+    ensures of_a_file { (file : List ℕ) (held : ℕ) → enough event_limit ≤ held → beginning.now ≡ take held file → total ≡ length file → Ran (file_of event_limit file) (lent global.old shared.old loads.old) result (lent global.new shared.new loads.new) }
     ensures ran { Ran (held_of event_limit beginning.now total) (lent global.old shared.old loads.old) result (lent global.new shared.new loads.new) }
 {
     match trace::shape_of(beginning, total) {
