@@ -1,4 +1,4 @@
-//! Links the proved library, `liblorvisk.a`, as `rt staticlib lorvisk` writes it.
+//! Links the proved library, `liblorvisk.a`, as `rt lib` in `crates/lorvisk` writes it.
 
 use std::path::Path;
 use std::process::exit;
@@ -8,12 +8,12 @@ fn main() {
         eprintln!("the proved library is x86-64: build for --target x86_64-unknown-linux-gnu");
         exit(1);
     }
-    let folder = Path::new(env!("CARGO_MANIFEST_DIR")).join("../../target/staticlib");
+    let folder = Path::new(env!("CARGO_MANIFEST_DIR")).join("../../crates/lorvisk/out");
     let archive = folder.join("liblorvisk.a");
     println!("cargo:rerun-if-changed={}", archive.display());
     if !archive.is_file() {
         eprintln!(
-            "{} is not there: write it with `rt staticlib lorvisk`",
+            "{} is not there: write it with `rt lib` in crates/lorvisk",
             archive.display()
         );
         exit(1);
