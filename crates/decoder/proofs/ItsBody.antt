@@ -54,12 +54,12 @@ module _ (a b c : ℕ) (rest : List ℕ) (first : a < 256 ^ 4) (second : b < 256
 copy-back : (mode : Mode) → mode_of (mode_number mode) (src_size_of mode) ≡ mode
 unfolding mode_of
 copy-back Plain = refl
-copy-back (SourceSize srcSize) = refl
+copy-back (SourceSize src_size) = refl
 copy-back SourceIgnored = refl
 
 mode_meant : (mode : Mode) → (leb (mode_number mode) 2 && (eqb (mode_number mode) 1 || is_zero (src_size_of mode))) ≡ true
 mode_meant Plain = refl
-mode_meant (SourceSize srcSize) = refl
+mode_meant (SourceSize src_size) = refl
 mode_meant SourceIgnored = refl
 
 cache_back : (cache : Cache) → cache_of (cache_number cache) ≡ cache
@@ -82,10 +82,10 @@ decodes (Store address size low high) fits h =
       there 8 high (thread address size ++ bytes_of 8 low) [] fits.2,
     )
     (decoded (Store address size low high) h)
-decodes (Copy dst src cpSize mode cache) fits h =
-    let three = three_back dst.0 src.0 (src_size_of mode) (cpSize ∷ mode_number mode ∷ cache_number cache ∷ 0 ∷ []) fits.0 fits.1 fits.2 in
+decodes (Copy dst src cp_size mode cache) fits h =
+    let three = three_back dst.0 src.0 (src_size_of mode) (cp_size ∷ mode_number mode ∷ cache_number cache ∷ 0 ∷ []) fits.0 fits.1 fits.2 in
     rw (three.0, three.1, three.2, mode_meant mode, cache_meant cache, copy-back mode, cache_back cache)
-    (decoded (Copy dst src cpSize mode cache) h)
+    (decoded (Copy dst src cp_size mode cache) h)
 decodes Commit fits h = refl
 decodes (Wait n) fits h = rw (there 4 n [] [] fits)
 decodes WaitAll fits h = refl

@@ -137,13 +137,13 @@ store_sound body e bytes n h =
     (refl, rw value whole, ok, (fits, bounded 8 body 8 bytes, bounded 8 body 16 bytes)))
 
 -- Copy.
-mode_said : (mode srcSize : ℕ) → leb mode 2 ≡ true → (eqb mode 1 || is_zero srcSize) ≡ true
-    → (mode_number (mode_of mode srcSize) ≡ mode) × (src_size_of (mode_of mode srcSize) ≡ srcSize)
+mode_said : (mode src_size : ℕ) → leb mode 2 ≡ true → (eqb mode 1 || is_zero src_size) ≡ true
+    → (mode_number (mode_of mode src_size) ≡ mode) × (src_size_of (mode_of mode src_size) ≡ src_size)
 unfolding mode_of
-mode_said zero srcSize h z = (refl, sym (eqb-true srcSize 0 z))
-mode_said (suc zero) srcSize h z = (refl, refl)
-mode_said (suc (suc zero)) srcSize h z = (refl, sym (eqb-true srcSize 0 z))
-mode_said (suc (suc (suc mode))) srcSize h z = absurd (omega (arith, leb-true (suc (suc (suc mode))) 2 h))
+mode_said zero src_size h z = (refl, sym (eqb-true src_size 0 z))
+mode_said (suc zero) src_size h z = (refl, refl)
+mode_said (suc (suc zero)) src_size h z = (refl, sym (eqb-true src_size 0 z))
+mode_said (suc (suc (suc mode))) src_size h z = absurd (omega (arith, leb-true (suc (suc (suc mode))) 2 h))
 
 cache_said : (cache : ℕ) → leb cache 1 ≡ true → cache_number (cache_of cache) ≡ cache
 cache_said zero h = refl
@@ -162,13 +162,13 @@ copy_sound body e bytes n h =
     (λ meant ok.
     let given = eqb (byte_at body 13) 1 || is_zero (number_at 4 body 8) in
     let parts = all-four (leb (byte_at body 13) 2) given (leb (byte_at body 14) 1) (is_zero (byte_at body 15)) meant in
-    let (mode, srcSize) = mode_said (byte_at body 13) (number_at 4 body 8) parts.0 parts.1 in
+    let (mode, src_size) = mode_said (byte_at body 13) (number_at 4 body 8) parts.0 parts.1 in
     let cache = cache_said (byte_at body 14) parts.2 in
     let last = sym (eqb-true (byte_at body 15) 0 parts.3) in (
       refl,
-      (λ j. three_fours (number_at 4 body 0) (number_at 4 body 4) (srcSize j) (byte_at body 12 ∷ mode j ∷ cache j ∷ last j ∷ [])) ∙ sixteen body bytes n,
+      (λ j. three_fours (number_at 4 body 0) (number_at 4 body 4) (src_size j) (byte_at body 12 ∷ mode j ∷ cache j ∷ last j ∷ [])) ∙ sixteen body bytes n,
       ok,
-      (bounded 4 body 0 bytes, bounded 4 body 4 bytes, rw srcSize (bounded 4 body 8 bytes)),
+      (bounded 4 body 0 bytes, bounded 4 body 4 bytes, rw src_size (bounded 4 body 8 bytes)),
     ))
 
 -- Bulk reduction.

@@ -75,8 +75,8 @@ not_within low high n out = go (leb low n) refl (leb n high) refl
     go false e t f = refl
 
 outside : (kind : ℕ) → Outside 1 2 kind → Outside 16 19 kind → Outside 32 35 kind → in_ranges kind ≡ false
-outside kind thread nonBulk bulk =
-    rw (not_within 1 2 kind thread, not_within 16 19 kind nonBulk, not_within 32 35 kind bulk)
+outside kind thread non_bulk bulk =
+    rw (not_within 1 2 kind thread, not_within 16 19 kind non_bulk, not_within 32 35 kind bulk)
 
 no_row : (rows : List Row) (kind : ℕ) (body : List ℕ) → has_row rows kind ≡ false → decode_by rows kind body ≡ UnknownKind
 no_row [] kind body h = refl
@@ -93,7 +93,7 @@ unknown kind body h = no_row kinds_of_01 kind body (ranges kind ∙ h)
 
 pub unknown-outside : (kind : ℕ) (body : List ℕ) → Outside 1 2 kind → Outside 16 19 kind → Outside 32 35 kind
     → decode_of kind body ≡ UnknownKind
-unknown-outside kind body thread nonBulk bulk = unknown kind body (outside kind thread nonBulk bulk)
+unknown-outside kind body thread non_bulk bulk = unknown kind body (outside kind thread non_bulk bulk)
 
 -- No row says that its kind is unknown.
 abbrev is_unknown : Item → Bool

@@ -43,7 +43,7 @@ store_in body =
 -- Copy, 16: dst (4), src (4), src-size (4), cp-size, mode, cache, zero.
 -- Mode 0 plain, 1 src-size given, 2 source ignored; cache 0 (.ca) or 1 (.cg).
 unfoldable pub mode_of : ℕ → ℕ → Mode
-mode_of mode srcSize = get_or (Plain ∷ SourceSize srcSize ∷ []) mode SourceIgnored
+mode_of mode src_size = get_or (Plain ∷ SourceSize src_size ∷ []) mode SourceIgnored
 
 abbrev pub cache_of : ℕ → Cache
 cache_of cache = cond (is_zero cache) Ca Cg

@@ -15,7 +15,7 @@ use Rattle.event.specs.Addresses.{offset_of}
 abbrev pub kind_of : Event → ℕ
 kind_of (Load address size) = 1
 kind_of (Store address size low high) = 2
-kind_of (Copy dst src cpSize mode cache) = 16
+kind_of (Copy dst src cp_size mode cache) = 16
 kind_of Commit = 17
 kind_of (Wait n) = 18
 kind_of WaitAll = 19
@@ -32,12 +32,12 @@ space_of (Shared at) = 1
 -- Mode 0 plain, 1 src-size given, 2 source ignored; in modes 0 and 2 the src-size field is zero.
 abbrev pub mode_number : Mode → ℕ
 mode_number Plain = 0
-mode_number (SourceSize srcSize) = 1
+mode_number (SourceSize src_size) = 1
 mode_number SourceIgnored = 2
 
 abbrev pub src_size_of : Mode → ℕ
 src_size_of Plain = 0
-src_size_of (SourceSize srcSize) = srcSize
+src_size_of (SourceSize src_size) = src_size
 src_size_of SourceIgnored = 0
 
 -- Cache 0 (.ca) or 1 (.cg).
@@ -54,8 +54,8 @@ three_fours a b c rest = bytes_of 4 a ++ (bytes_of 4 b ++ (bytes_of 4 c ++ rest)
 unfoldable pub body_of : Event → List ℕ
 body_of (Load address size) = thread address size
 body_of (Store address size low high) = thread address size ++ value_bytes low high
-body_of (Copy dst src cpSize mode cache) =
-    three_fours dst.0 src.0 (src_size_of mode) (cpSize ∷ mode_number mode ∷ cache_number cache ∷ 0 ∷ [])
+body_of (Copy dst src cp_size mode cache) =
+    three_fours dst.0 src.0 (src_size_of mode) (cp_size ∷ mode_number mode ∷ cache_number cache ∷ 0 ∷ [])
 body_of Commit = []
 body_of (Wait n) = bytes_of 4 n
 body_of WaitAll = []
@@ -69,7 +69,7 @@ body_of (BulkWait n) = bytes_of 4 n
 abbrev pub Fits : Event → Type 0
 Fits (Load address size) = offset_of address < 256 ^ 4
 Fits (Store address size low high) = (offset_of address < 256 ^ 4) × (low < 256 ^ 8) × (high < 256 ^ 8)
-Fits (Copy dst src cpSize mode cache) = (dst.0 < 256 ^ 4) × (src.0 < 256 ^ 4) × (src_size_of mode < 256 ^ 4)
+Fits (Copy dst src cp_size mode cache) = (dst.0 < 256 ^ 4) × (src.0 < 256 ^ 4) × (src_size_of mode < 256 ^ 4)
 Fits Commit = Unit
 Fits (Wait n) = n < 256 ^ 4
 Fits WaitAll = Unit

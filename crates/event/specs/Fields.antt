@@ -18,7 +18,7 @@ is_thread_size size = eqb size 1 || eqb size 2 || eqb size 4 || eqb size 8 || eq
 
 -- Copy: cp-size 4, 8 or 16.
 abbrev pub is_copy_size : ℕ → Bool
-is_copy_size cpSize = eqb cpSize 4 || eqb cpSize 8 || eqb cpSize 16
+is_copy_size cp_size = eqb cp_size 4 || eqb cp_size 8 || eqb cp_size 16
 
 -- Bulk size: a multiple of 16, not zero.
 abbrev pub is_bulk_size : ℕ → Bool
@@ -38,14 +38,14 @@ is_value size low high = all_zero (drop size (value_bytes low high))
 
 -- The src-size that is given is at most cp-size.
 abbrev pub is_mode : Mode → ℕ → Bool
-is_mode Plain cpSize = true
-is_mode (SourceSize srcSize) cpSize = leb srcSize cpSize
-is_mode SourceIgnored cpSize = true
+is_mode Plain cp_size = true
+is_mode (SourceSize src_size) cp_size = leb src_size cp_size
+is_mode SourceIgnored cp_size = true
 
 -- .cg goes only with cp-size 16.
 abbrev pub is_cache : Cache → ℕ → Bool
-is_cache Ca cpSize = true
-is_cache Cg cpSize = eqb cpSize 16
+is_cache Ca cp_size = true
+is_cache Cg cp_size = eqb cp_size 16
 
 -- Operations 0 and, 1 or, 2 xor, 3 add, 4 min, 5 max.
 abbrev pub operation_number : Operation → ℕ
@@ -72,7 +72,7 @@ is_pair operation element = pair_of_01 (operation_number operation) (type_number
 unfoldable pub allowed : Event → Bool
 allowed (Load address size) = is_thread_size size
 allowed (Store address size low high) = is_thread_size size && is_value size low high
-allowed (Copy dst src cpSize mode cache) = is_copy_size cpSize && is_mode mode cpSize && is_cache cache cpSize
+allowed (Copy dst src cp_size mode cache) = is_copy_size cp_size && is_mode mode cp_size && is_cache cache cp_size
 allowed Commit = true
 allowed (Wait n) = true
 allowed WaitAll = true

@@ -58,7 +58,7 @@ made-part n a b (event.Load (Global at) size) = ap₂ counts (omega arith) (omeg
 made-part n a b (event.Load (Shared at) size) = ap₂ counts (omega arith) (omega arith)
 made-part n a b (event.Store (Global at) size low high) = ap₂ counts (omega arith) (omega arith)
 made-part n a b (event.Store (Shared at) size low high) = ap₂ counts (omega arith) (omega arith)
-made-part n a b (event.Copy dst src cpSize mode cache) = ap₂ counts (omega arith) (omega arith)
+made-part n a b (event.Copy dst src cp_size mode cache) = ap₂ counts (omega arith) (omega arith)
 made-part n a b event.Commit = ap₂ counts (omega arith) (omega arith)
 made-part n a b (event.Wait m) = ap₂ counts (omega arith) (omega arith)
 made-part n a b event.WaitAll = ap₂ counts (omega arith) (omega arith)
@@ -88,7 +88,7 @@ pub record Starts (k : ℕ) (made : GroupsMade) (e : Event) : Type 0 where
 pub starts : (k : ℕ) (made : GroupsMade) (e : Event) → is_operation e ≡ true → Starts k made e
 starts k made (event.Load address size) h = absurd (false≢true h)
 starts k made (event.Store address size low high) h = absurd (false≢true h)
-starts k made (event.Copy dst src cpSize mode cache) h =
+starts k made (event.Copy dst src cp_size mode cache) h =
     record { its = _; chain = NonBulk; part_is = refl; event_is = refl; role_is = refl; chain_is = refl; commits_are = refl }
 starts k made event.Commit h = absurd (false≢true h)
 starts k made (event.Wait n) h = absurd (false≢true h)
@@ -113,7 +113,7 @@ no_record k made (event.Load (Global at) size) h = refl
 no_record k made (event.Load (Shared at) size) h = refl
 no_record k made (event.Store (Global at) size low high) h = refl
 no_record k made (event.Store (Shared at) size low high) h = refl
-no_record k made (event.Copy dst src cpSize mode cache) h = absurd (false≢true (sym h))
+no_record k made (event.Copy dst src cp_size mode cache) h = absurd (false≢true (sym h))
 no_record k made event.Commit h = refl
 no_record k made (event.Wait n) h = refl
 no_record k made event.WaitAll h = refl
@@ -181,8 +181,8 @@ stays_open_lem n made (event.Store (Global at) size low high) o NonBulk c l = re
 stays_open_lem n made (event.Store (Global at) size low high) o Bulk c l = refl
 stays_open_lem n made (event.Store (Shared at) size low high) o NonBulk c l = refl
 stays_open_lem n made (event.Store (Shared at) size low high) o Bulk c l = refl
-stays_open_lem n made (event.Copy dst src cpSize mode cache) o NonBulk c l = refl
-stays_open_lem n made (event.Copy dst src cpSize mode cache) o Bulk c l = refl
+stays_open_lem n made (event.Copy dst src cp_size mode cache) o NonBulk c l = refl
+stays_open_lem n made (event.Copy dst src cp_size mode cache) o Bulk c l = refl
 stays_open_lem n made event.Commit o NonBulk c l = refl
 stays_open_lem n made event.Commit o Bulk c l = refl
 stays_open_lem n made (event.Wait m) o NonBulk c l =

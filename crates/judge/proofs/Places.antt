@@ -144,7 +144,7 @@ module _ (s : State) (ranges marks : List ℕ) where
   part_unchanged (Load (Shared at) size) h k = (refl, refl)
   part_unchanged (Store (Global at) size low high) h k = (refl, refl)
   part_unchanged (Store (Shared at) size low high) h k = (refl, refl)
-  part_unchanged (Copy dst src cpSize mode cache) h k = absurd (true≢false h)
+  part_unchanged (Copy dst src cp_size mode cache) h k = absurd (true≢false h)
   part_unchanged Commit h k = (refl, refl)
   part_unchanged (Wait n) h k = absurd (k waited.wait)
   part_unchanged WaitAll h k = absurd (k waited.wait_all)

@@ -172,7 +172,7 @@ module _ (n : ℕ) (made : GroupsMade) where
   described (Load (address.Shared at) size) = tells Global refl (no_reduction (λ p. refl)) (only_second refl)
   described (Store (address.Global at) size low high) = tells Global refl (no_reduction (λ p. refl)) (only_first refl)
   described (Store (address.Shared at) size low high) = tells Shared refl (no_reduction (λ p. refl)) (only_first refl)
-  described (Copy dst src cpSize mode cache) = tells Shared refl (no_reduction (λ p. refl)) both
+  described (Copy dst src cp_size mode cache) = tells Shared refl (no_reduction (λ p. refl)) both
   described Commit = refl
   described (Wait newest) = refl
   described WaitAll = refl

@@ -72,19 +72,19 @@ module _ (lengths : Lengths) where
       let sized = thread-size size (both (is_thread_size size) (is_value size low high) p.0).0 in
       (first_ends (writing (memory_of at) (offset_of at) size) [] p.1 sized.0, sized.1)
 
-  pub copy-fits : (dst : SharedAddress) (src : GlobalAddress) (cpSize : ℕ) (mode : Mode) (cache : Cache)
-      → faultless lengths (Copy dst src cpSize mode cache) ≡ true
-      → (dst.0 + cpSize ≤ lengths.shared) × (bytes_read mode cpSize ≤ cpSize)
-      × (0 < bytes_read mode cpSize → src.0 + bytes_read mode cpSize ≤ lengths.global)
+  pub copy-fits : (dst : SharedAddress) (src : GlobalAddress) (cp_size : ℕ) (mode : Mode) (cache : Cache)
+      → faultless lengths (Copy dst src cp_size mode cache) ≡ true
+      → (dst.0 + cp_size ≤ lengths.shared) × (bytes_read mode cp_size ≤ cp_size)
+      × (0 < bytes_read mode cp_size → src.0 + bytes_read mode cp_size ≤ lengths.global)
   unfolding allowed
-  copy-fits dst src cpSize mode cache h =
-      let p = parts (Copy dst src cpSize mode cache) h in
-      let q = all_three (is_copy_size cpSize) (is_mode mode cpSize) (is_cache cache cpSize) p.0 in
-      let to = writing Shared dst.0 cpSize in
-      let from = reading Global src.0 (bytes_read mode cpSize) in
-      let sized = copy-size cpSize q.0 in
-      let some : 0 < cpSize = omega arith in
-      (first_ends to (from ∷ []) p.1 some, reads_less mode cpSize q.1, second_ends to from [] p.1)
+  copy-fits dst src cp_size mode cache h =
+      let p = parts (Copy dst src cp_size mode cache) h in
+      let q = all_three (is_copy_size cp_size) (is_mode mode cp_size) (is_cache cache cp_size) p.0 in
+      let to = writing Shared dst.0 cp_size in
+      let from = reading Global src.0 (bytes_read mode cp_size) in
+      let sized = copy-size cp_size q.0 in
+      let some : 0 < cp_size = omega arith in
+      (first_ends to (from ∷ []) p.1 some, reads_less mode cp_size q.1, second_ends to from [] p.1)
 
   bulk-ends : (dst : GlobalAddress) (src : SharedAddress) (size : ℕ) → 0 < size
       → all_inside lengths (accesses (BulkCopy dst src size)) ≡ true
@@ -148,7 +148,7 @@ pub no_load : (e : Event) → ((at : Address) (size : ℕ) → e ≡ Load at siz
 no_load (Load at size) other = absurd (other at size refl)
 no_load (Store (address.Global at) size low high) other = (refl, λ global shared. refl)
 no_load (Store (address.Shared at) size low high) other = (refl, λ global shared. refl)
-no_load (Copy dst src cpSize mode cache) other = (refl, λ global shared. refl)
+no_load (Copy dst src cp_size mode cache) other = (refl, λ global shared. refl)
 no_load Commit other = (refl, λ global shared. refl)
 no_load (Wait n) other = (refl, λ global shared. refl)
 no_load WaitAll other = (refl, λ global shared. refl)

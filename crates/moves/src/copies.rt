@@ -4,7 +4,7 @@ ghost use Rattle.effect.specs.Memory.{read, write};
 ghost use Rattle.effect.specs.Element.{reduce};
 ghost use Rattle.effect.specs.Effect.{padded};
 
-use crate::memory::{global_part, shared_part};
+use crate::memory::{copy_all, global_part, shared_part};
 use event::{ElementType, GlobalAddress, Operation, SharedAddress};
 
 // From global to shared memory: `count` bytes are read and `size` are written.
@@ -31,7 +31,7 @@ fn copy_padded(source: &[u8], destination: &mut [u8])
     ensures { destination.new ≡ padded (length destination.old) source.now }
 {
     let count = source.len();
-    destination[..count].copy_from_slice(source);
+    copy_all(source, &mut destination[..count]);
     clear(&mut destination[count..]);
 }
 

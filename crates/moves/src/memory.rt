@@ -33,7 +33,7 @@ pub(crate) fn write_global(global: &mut [u8], at: GlobalAddress, source: &[u8])
 {
     let start = at.0 as usize;
     let end = start + source.len();
-    global[start..end].copy_from_slice(source);
+    copy_all(source, &mut global[start..end]);
 }
 
 pub(crate) fn write_shared(shared: &mut [u8], at: SharedAddress, source: &[u8])
@@ -42,5 +42,16 @@ pub(crate) fn write_shared(shared: &mut [u8], at: SharedAddress, source: &[u8])
 {
     let start = at.0 as usize;
     let end = start + source.len();
-    shared[start..end].copy_from_slice(source);
+    copy_all(source, &mut shared[start..end]);
+}
+
+// Copies as many bytes as the destination has. A loop, and not `copy_from_slice`, whose memmove the header does not ask a C
+// host for.
+pub(crate) fn copy_all(source: &[u8], destination: &mut [u8])
+    requires { length destination.old ≡ length source.now }
+    ensures { destination.new ≡ source.now }
+{
+    for (index, byte) in source.iter().enumerate() {
+        destination[index] = *byte;
+    }
 }

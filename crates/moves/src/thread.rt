@@ -6,7 +6,7 @@ ghost use Rattle.effect.specs.Memory.{get, put, initial};
 ghost use Rattle.rules.specs.Events.{memory_of};
 ghost use Rattle.rules.specs.Faults.{length_of};
 
-use crate::memory::{global_part, shared_part, write_global, write_shared};
+use crate::memory::{copy_all, global_part, shared_part, write_global, write_shared};
 use event::Address;
 
 // Reads `size` bytes into what is lent of the record.
@@ -16,8 +16,8 @@ pub(crate) fn load(address: Address, size: u32, global: &[u8], shared: &[u8], to
     ensures { to.new ≡ get (memory_of address) (offset_of address) size (initial global.now shared.now 1) }
 {
     match address {
-        Address::Global(at) => to.copy_from_slice(global_part(global, at, size)),
-        Address::Shared(at) => to.copy_from_slice(shared_part(shared, at, size)),
+        Address::Global(at) => copy_all(global_part(global, at, size), to),
+        Address::Shared(at) => copy_all(shared_part(shared, at, size), to),
     }
 }
 

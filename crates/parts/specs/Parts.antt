@@ -77,7 +77,7 @@ wait_bulk made newest = record { chain = 1; commits = made.bulk; newest = newest
 abbrev pub part_of : ℕ → GroupsMade → Event → Part
 part_of number made (event.Load address size) = load_part number address size
 part_of number made (event.Store address size low high) = store_part number address size
-part_of number made (event.Copy dst src cpSize mode cache) = copy_part number made dst cpSize src (bytes_read mode cpSize)
+part_of number made (event.Copy dst src cp_size mode cache) = copy_part number made dst cp_size src (bytes_read mode cp_size)
 part_of number made event.Commit = part.Commit (commit_copies made)
 part_of number made (event.Wait newest) = part.Wait made (wait_copies made newest)
 part_of number made event.WaitAll = part.Wait (commit_copies made) (wait_copies (commit_copies made) 0)

@@ -43,7 +43,7 @@ aligned-effect : (e : Event) → aligned e ≡ true → OnElements (effect_of e)
 unfolding aligned
 aligned-effect (Load address size) h = tt
 aligned-effect (Store address size low high) h = tt
-aligned-effect (Copy dst src cpSize mode cache) h = tt
+aligned-effect (Copy dst src cp_size mode cache) h = tt
 aligned-effect Commit h = tt
 aligned-effect (Wait n) h = tt
 aligned-effect WaitAll h = tt

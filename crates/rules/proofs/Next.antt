@@ -61,7 +61,7 @@ peak-same es es' (suc n) h =
 one-chain : (e : Event) → role NonBulk e ≡ operation → ¬ (role Bulk e ≡ operation)
 one-chain (Load address size) p q = let z : ◌≡◌ {A = ℕ} 0 1 = cc in omega arith
 one-chain (Store address size low high) p q = let z : ◌≡◌ {A = ℕ} 0 1 = cc in omega arith
-one-chain (Copy dst src cpSize mode cache) p q = let z : ◌≡◌ {A = ℕ} 0 1 = cc in omega arith
+one-chain (Copy dst src cp_size mode cache) p q = let z : ◌≡◌ {A = ℕ} 0 1 = cc in omega arith
 one-chain Commit p q = let z : ◌≡◌ {A = ℕ} 0 1 = cc in omega arith
 one-chain (Wait n) p q = let z : ◌≡◌ {A = ℕ} 0 1 = cc in omega arith
 one-chain WaitAll p q = let z : ◌≡◌ {A = ℕ} 0 1 = cc in omega arith
@@ -86,7 +86,7 @@ Waits (wait n) = Unit {0}
 waits_no_access : (c : Chain) (e : Event) → Waits (role c e) → accesses e ≡ []
 waits_no_access NonBulk (Load address size) w = absurd w
 waits_no_access NonBulk (Store address size low high) w = absurd w
-waits_no_access NonBulk (Copy dst src cpSize mode cache) w = absurd w
+waits_no_access NonBulk (Copy dst src cp_size mode cache) w = absurd w
 waits_no_access NonBulk Commit w = absurd w
 waits_no_access NonBulk (Wait n) w = refl
 waits_no_access NonBulk WaitAll w = refl
@@ -96,7 +96,7 @@ waits_no_access NonBulk BulkCommit w = absurd w
 waits_no_access NonBulk (BulkWait n) w = absurd w
 waits_no_access Bulk (Load address size) w = absurd w
 waits_no_access Bulk (Store address size low high) w = absurd w
-waits_no_access Bulk (Copy dst src cpSize mode cache) w = absurd w
+waits_no_access Bulk (Copy dst src cp_size mode cache) w = absurd w
 waits_no_access Bulk Commit w = absurd w
 waits_no_access Bulk (Wait n) w = absurd w
 waits_no_access Bulk WaitAll w = absurd w

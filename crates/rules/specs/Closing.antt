@@ -16,7 +16,7 @@ pub data Role : Type 0 where
 abbrev pub role : Chain → Event → Role
 role NonBulk (Load address size) = other
 role NonBulk (Store address size low high) = other
-role NonBulk (Copy dst src cpSize mode cache) = operation
+role NonBulk (Copy dst src cp_size mode cache) = operation
 role NonBulk Commit = commit
 role NonBulk (Wait n) = wait n
 role NonBulk WaitAll = wait_all
@@ -26,7 +26,7 @@ role NonBulk BulkCommit = other
 role NonBulk (BulkWait n) = other
 role Bulk (Load address size) = other
 role Bulk (Store address size low high) = other
-role Bulk (Copy dst src cpSize mode cache) = other
+role Bulk (Copy dst src cp_size mode cache) = other
 role Bulk Commit = other
 role Bulk (Wait n) = other
 role Bulk WaitAll = other

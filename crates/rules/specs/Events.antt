@@ -18,7 +18,7 @@ memory_of (address.Shared at) = Shared
 abbrev pub effect_of : Event → Effect
 effect_of (Load address size) = load (memory_of address) (offset_of address) size
 effect_of (Store address size low high) = store (memory_of address) (offset_of address) size (value_bytes low high)
-effect_of (Copy dst src cpSize mode cache) = copy dst.0 src.0 (bytes_read mode cpSize) cpSize
+effect_of (Copy dst src cp_size mode cache) = copy dst.0 src.0 (bytes_read mode cp_size) cp_size
 effect_of Commit = nothing
 effect_of (Wait n) = nothing
 effect_of WaitAll = nothing

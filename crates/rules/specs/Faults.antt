@@ -36,7 +36,7 @@ multiple_of size at = is_zero (at % size)
 unfoldable pub aligned : Event → Bool
 aligned (Load address size) = multiple_of size (offset_of address)
 aligned (Store address size low high) = multiple_of size (offset_of address)
-aligned (Copy dst src cpSize mode cache) = multiple_of cpSize dst.0 && multiple_of cpSize src.0
+aligned (Copy dst src cp_size mode cache) = multiple_of cp_size dst.0 && multiple_of cp_size src.0
 aligned Commit = true
 aligned (Wait n) = true
 aligned WaitAll = true

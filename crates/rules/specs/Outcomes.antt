@@ -18,7 +18,7 @@ exec es (act i) s = does i (effect_of (event_at es i)) s
 abbrev pub load_size : Event → ℕ
 load_size (Load address size) = size
 load_size (Store address size low high) = 0
-load_size (Copy dst src cpSize mode cache) = 0
+load_size (Copy dst src cp_size mode cache) = 0
 load_size Commit = 0
 load_size (Wait n) = 0
 load_size WaitAll = 0
@@ -31,7 +31,7 @@ load_size (BulkWait n) = 0
 abbrev pub load_of : Event → List ℕ → List (List ℕ)
 load_of (Load address size) bytes = bytes ∷ []
 load_of (Store address size low high) bytes = []
-load_of (Copy dst src cpSize mode cache) bytes = []
+load_of (Copy dst src cp_size mode cache) bytes = []
 load_of Commit bytes = []
 load_of (Wait n) bytes = []
 load_of WaitAll bytes = []

@@ -62,7 +62,7 @@ all_of_append (x ∷ xs) ys = ap (λ l. x ++ l) (all_of_append xs ys) ∙ sym (a
 of_event : (e : Event) (s : State) → all_of (load_of e (eager.read_by (effect_of e) s)) ≡ eager.read_by (effect_of e) s
 of_event (Load at size) s = append-nil _
 of_event (Store at size low high) s = refl
-of_event (Copy dst src cpSize mode cache) s = refl
+of_event (Copy dst src cp_size mode cache) s = refl
 of_event Commit s = refl
 of_event (Wait n) s = refl
 of_event WaitAll s = refl

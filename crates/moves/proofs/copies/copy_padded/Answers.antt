@@ -8,5 +8,5 @@ use Rattle.moves.proofs.copies.copy_padded.Goals as goal
 pub returns : goal.returns
 returns c =
     padded-back c.args.source.now c.args.destination.now _ _ c.requires
-    (ap (λ copied. copied ++ drop (length c.args.source.now) c.args.destination.now) c.copy_from_slice.ensures.after)
+    (ap (λ copied. copied ++ drop (length c.args.source.now) c.args.destination.now) c.copy_all.ensures)
     c.clear.ensures
