@@ -1,11 +1,6 @@
 -- What is held of an input is among what was lent for it.
 -- Assumes nothing.
-use Prim.Native.Nat.{ℕ, ◌≤◌}
-use native.Mathlib.Omega.{arith}
-use mathlib.Core.Path.{◌≡◌, sym}
-use mathlib.Core.List.{List}
-use lib.ListN.{length, take}
-use lib.Seq.{length-take-le}
+use Rattle.std.proofs.Common.{◌≡◌, ℕ, ◌≤◌, List, length, take, sym, arith, length-take-le}
 use Rattle.input.specs.declared.Input.{Input}
 use Rattle.input.specs.declared.Input.TheVariants.{Whole}
 use Rattle.input.specs.Held.{Held}
@@ -14,5 +9,5 @@ module _ {held total : ℕ} {found : Input} (before after : List ℕ) (is : foun
   pub within : held ≤ length after
   within = let holds = rw is at h in omega (arith, holds.0)
 
-  pub all_held : held ≡ length (take held after)
-  all_held = sym (length-take-le held after within)
+  pub all-held : held ≡ length (take held after)
+  all-held = sym (length-take-le held after within)

@@ -1,3 +1,4 @@
 -- The laws of an input's beginning.
 pub mod Kept
+pub mod Reading
 pub mod Holding

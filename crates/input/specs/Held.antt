@@ -1,5 +1,5 @@
--- What is kept of an input. No contract of the C library says which bytes a read gives.
-use Rattle.std.specs.Prelude.{ℕ, ◌+◌, ◌-◌, min, ◌≡◌, List, ◌++◌, length, take, drop}
+-- What is kept of an input. No contract says which bytes a file or a terminal gives; a reader over memory may say its own.
+use Rattle.std.specs.Prelude.{ℕ, ◌+◌, ◌-◌, min, ◌≡◌, List, ◌++◌, length, take, drop, Option, Some, None}
 use Rattle.input.specs.declared.Input.{Input}
 use Rattle.input.specs.declared.Input.TheVariants.{Whole, Unread}
 
@@ -14,7 +14,13 @@ Begins total before after = (input : List ℕ) × (length input ≡ total) × (a
 -- It is held whole, or as much of it as was lent. Of an input that was not read to its end nothing is said.
 abbrev pub Held : Input → List ℕ → List ℕ → Type 0
 Held (Whole held total) before after = (held ≡ min total (length after)) × Begins total before after
-Held Unread before after = Unit {0}
+Held (Unread error) before after = Unit {0}
+
+-- Where the reader says which bytes it has left, the input is just these.
+abbrev pub HeldOf : Input → Option (List ℕ) → List ℕ → List ℕ → Type 0
+HeldOf (Whole held total) (Some input) before after = (total ≡ length input) × (after ≡ beginning_with input before)
+HeldOf (Whole held total) None before after = Unit {0}
+HeldOf (Unread error) known before after = Unit {0}
 
 -- ---- For the inner function `keep`; no promise to a caller cites it.
 

@@ -3,41 +3,43 @@
 #![tactic(auto)]
 
 ghost use Rattle.std.specs.Prelude.{◌≡◌, min};
-ghost use Rattle.input.specs.Held.{Held, kept_in};
+ghost use Rattle.input.specs.Held.{Held, HeldOf, kept_in};
+
+use std::io;
+use std::io::Read;
 
 #[derive(Drop)]
 pub enum Input {
     // The first `held` of what was lent are the input's first bytes; `total` is its length.
     Whole { held: usize, total: usize },
     // A read failed, or the input did not end.
-    Unread,
+    Unread(io::Error),
 }
 
 // Reads to the end of the input. A proved loop has to end, and nothing says that an input does: past so many pieces it is
 // unread.
-pub fn read(fd: i32, beginning: &mut [u8]) -> Input
-    ensures { Held result beginning.old beginning.new }
+pub fn read<R: Read>(reader: &mut R, beginning: &mut [u8]) -> Input
+    ensures held { Held result beginning.old beginning.new }
+    ensures bytes { HeldOf result (R.remaining reader.old) beginning.old beginning.new }
 {
     let mut total: usize = 0;
-    let mut pieces: u32 = 0;
-    while pieces < u32::MAX {
-        let mut piece = io::large_buffer();
-        let got = libc::read(fd, &mut piece);
-        if got < 0 {
-            return Input::Unread;
+    for _ in 0..u32::MAX {
+        let mut piece = [0u8; 65536];
+        match reader.read(&mut piece) {
+            Ok(0) => {
+                return Input::Whole {
+                    held: least(total, beginning.len()),
+                    total,
+                };
+            }
+            Ok(count) => {
+                keep(&piece[..count], total, beginning);
+                total += count;
+            }
+            Err(error) => return Input::Unread(error),
         }
-        if got == 0 {
-            return Input::Whole {
-                held: least(total, beginning.len()),
-                total,
-            };
-        }
-        let count = io::count(got, &piece);
-        keep(&piece[..count], total, beginning);
-        total += count;
-        pieces += 1;
     }
-    Input::Unread
+    Input::Unread(io::Error::other("the input does not end"))
 }
 
 // Puts as much of a piece as has room into the beginning, from index `at` on.
@@ -46,7 +48,7 @@ fn keep(piece: &[u8], at: usize, beginning: &mut [u8])
 {
     if at < beginning.len() {
         let count = least(piece.len(), beginning.len() - at);
-        bytes::copy(&piece[..count], &mut beginning[at..]);
+        beginning[at..at + count].copy_from_slice(&piece[..count]);
     }
 }
 

@@ -1,4 +1,4 @@
 -- Laws that the functions' proofs cite, and the proofs of the theorems.
-mod Digits
-mod Lines
+pub mod Digits
+pub mod Lines
 pub mod Theorems

@@ -1,30 +1,23 @@
 -- What a line holds when a number more is put into it.
 -- Assumes nothing.
-use Prim.Native.Nat.{ℕ, suc, ◌+◌, ◌-◌, ◌/◌, ◌≤◌, ◌<◌}
-use mathlib.Core.Path.{◌≡◌, refl, sym, ap, ap₂, ◌∙◌}
-use mathlib.Core.List.{List, [], ◌∷◌, ◌++◌, append_assoc, append-nil}
-use mathlib.Core.Bool.{true, false, cond, ◌&&◌, and-false}
-use native.Mathlib.Omega.{arith}
-use native.Mathlib.Numerals.{add-one}
-use lib.ListN.{length, get_or, take, drop, set, length-append, length-drop, drop_of_length-le}
-use lib.Dec.{ltb, leb}
-use lib.Seq.{take_at, drop_at, take_all, take-length, drop-drop, drop-cons, set_at, length-take-le, take-append_seam, drop-append-add}
-use Rattle.line.specs.Text.{decimal_of, end_of, text_of, line_of, count_of, leaves_of, named_line, room_for_both, named_count, named_leaves}
+use Rattle.std.proofs.Common.{◌≡◌, ℕ, suc, ◌+◌, ◌-◌, ◌/◌, ◌≤◌, ◌<◌, List, [], ◌∷◌, ◌++◌, true, false, cond, ◌&&◌, ltb, leb, length, get_or, take, drop, set, refl, sym, ap, ap₂, ◌∙◌, arith, add-one, append_assoc, append-nil, length-append, length-drop, length-take-le}
+use Rattle.std.proofs.lemmas.List.{take_at, drop_at, take_all, drop-drop, drop_all, set_at}
+use Rattle.std.proofs.Math.Seq.{drop-cons, take-append_seam, drop-append-add}
+use mathlib.Core.Bool.{and-false}
 use borrow.Author.Tests.{lt-ltb, le-ltb, le-leb, lt-leb}
 use borrow.Rule.Slice.PartMut.{put_mid, same_len_mid}
-use Rattle.io.specs.Counts.{IsPrefixLen}
+use Rattle.line.specs.Text.{IsPrefixLen, decimal_of, end_of, text_of, line_of, count_of, leaves_of, named_line, room_for_both, named_count, named_leaves}
 
--- Digits copied to an index, and one byte more behind them.
-pub put_line : (s : List ℕ) (at k : ℕ) (d src copied : List ℕ) (e : ℕ) → at + k < length s → src ≡ d → length d ≡ k
-    → copied ≡ take (length src) src ++ drop (length src) (take (length s - at) (drop at s))
-    → set (put_mid at (length s - at) s copied) (at + k) e ≡ take at s ++ (d ++ e ∷ drop (at + k + 1) s)
-put_line s at k d src copied e room same count copy =
-    let all : take (length s - at) (drop at s) ≡ drop at s = take_all (length s - at) (drop at s) (rw length-drop (omega arith)) in
-    let none : drop (length s - at) (drop at s) ≡ [] = drop_of_length-le (drop at s) {i = length s - at} (rw length-drop (omega arith)) in
-    let rest : drop k (drop at s) ≡ get_or s (at + k) 0 ∷ drop (suc (at + k)) s = drop-drop k at s ∙ drop-cons s (at + k) 0 room in
-    let front : length (take at s ++ d) ≡ at + k = rw (length-append, length-take-le at s (omega arith), count) in
-    let put : copied ≡ d ++ (get_or s (at + k) 0 ∷ drop (suc (at + k)) s) = rw (copy, same, take-length d, count, all, rest) in
-    rw (put, none, append-nil, ← append_assoc (take at s) d (get_or s (at + k) 0 ∷ drop (suc (at + k)) s), set_at (take at s ++ d) (get_or s (at + k) 0) (drop (suc (at + k)) s) e (at + k) front, add-one) (append_assoc (take at s) d (e ∷ drop (suc (at + k)) s))
+-- Digits put to an index, and one byte more behind them.
+pub put_line : (s : List ℕ) (at k : ℕ) (d : List ℕ) (e : ℕ) → at + k < length s → length d ≡ k
+    → set (put_mid at (at + k - at) s d) (at + k) e ≡ take at s ++ (d ++ e ∷ drop (at + k + 1) s)
+put_line s at k d e room count =
+    let past : at + (at + k - at) ≡ at + k = omega arith in
+    let rest : drop (at + k - at) (drop at s) ≡ get_or s (at + k) 0 ∷ drop (suc (at + k)) s =
+    drop-drop (at + k - at) at s ∙ ap (λ n. drop n s) past ∙ drop-cons s (at + k) 0 room in
+    let front : length (take at s ++ d) ≡ at + k = rw (length-append, length-take-le at s (omega arith), count) refl in
+    rw (rest, ← append_assoc (take at s) d (get_or s (at + k) 0 ∷ drop (suc (at + k)) s), set_at (take at s ++ d) (get_or s (at + k) 0) (drop (suc (at + k)) s) e (at + k) front, add-one)
+    (append_assoc (take at s) d (e ∷ drop (suc (at + k)) s))
 
 -- With a number more the line is the text of one number more, and the rest as it was.
 pub grown : (numbers whole now then : List ℕ) (i at r e : ℕ) → at ≡ length (text_of numbers i) → now ≡ text_of numbers i ++ drop at whole
@@ -67,11 +60,11 @@ module _ (numbers out : List ℕ) where
 
 -- ---- a name before the numbers
 module _ (name out copied : List ℕ) (room : length name < length out)
-    (copy : copied ≡ take (length name) name ++ drop (length name) out) where
+    (copy : copied ≡ name ++ drop (length name) out) where
   -- the name and the space, and the rest as it was
   spaced-is : set copied (length name) 32 ≡ name ++ 32 ∷ drop (length name + 1) out
   spaced-is =
-      ap (λ l. set l (length name) 32) (copy ∙ ap₂ ◌++◌ (take-length name) (drop-cons out (length name) 0 room))
+      ap (λ l. set l (length name) 32) (copy ∙ ap (λ l. name ++ l) (drop-cons out (length name) 0 room))
       ∙ set_at name (get_or out (length name) 0) (drop (suc (length name)) out) 32 (length name) refl
       ∙ ap (λ k. name ++ 32 ∷ drop k out) (sym (add-one (length name)))
 
@@ -104,8 +97,7 @@ module _ (name out copied : List ℕ) (room : length name < length out)
       ap (take (length name + 1)) (spaced-is ∙ front)
       ∙ take_at (name ++ 32 ∷ []) (drop (length name + 1) out) (length name + 1) front_long in
       let nothing : drop (length (set copied (length name) 32) - (length name + 1)) (drop (length name + 1) (set copied (length name) 32)) ≡ [] =
-      drop_of_length-le (drop (length name + 1) (set copied (length name) 32))
-      {i = length (set copied (length name) 32) - (length name + 1)}
+      drop_all (length (set copied (length name) 32) - (length name + 1)) (drop (length name + 1) (set copied (length name) 32))
       (omega (arith, length-drop (length name + 1) (set copied (length name) 32))) in
       ap₂ (λ l r. l ++ (laid ++ r)) before nothing
       ∙ ap (λ l. (name ++ 32 ∷ []) ++ l) (append-nil laid) ∙ append_assoc name (32 ∷ []) laid
@@ -160,7 +152,7 @@ module _ (name numbers out : List ℕ) where
 -- What stands in the end, where the numbers are laid out in what is left.
 module _ (name numbers out copied laid : List ℕ) (count : ℕ) (room : length name < length out)
     (few : length numbers ≤ (length out - (length name + 1)) / 11)
-    (copy : copied ≡ take (length name) name ++ drop (length name) out) where
+    (copy : copied ≡ name ++ drop (length name) out) where
   abbrev spaced : List ℕ
   spaced = set copied (length name) 32
 

@@ -1,6 +1,6 @@
 -- The theorems of specs/Theorems.antt.
 -- Assumes nothing.
-use mathlib.Core.Path.{refl}
+use Rattle.std.proofs.Common.{refl}
 use Rattle.line.specs.Text.{places, decimal_of, text_of}
 use Rattle.line.specs.Theorems.{HeaderLine, LongestNumber}
 

@@ -1,15 +1,23 @@
 -- Numbers as a line of text: in decimal, with one space between and a newline after the last.
-use Rattle.std.specs.Prelude.{ℕ, zero, suc, ◌+◌, ◌-◌, ◌/◌, Bool, cond, ◌&&◌, List, [], ◌∷◌, ◌++◌, ltb, leb, eqb, length, get_or, drop}
-use Rattle.io.specs.Digits.{last_digits}
+use Rattle.std.specs.Prelude.{ℕ, zero, suc, ◌+◌, ◌-◌, ◌/◌, Bool, cond, ◌&&◌, List, [], ◌∷◌, ◌++◌, ltb, leb, eqb, length, get_or, take, drop, ◌%◌, ◌≡◌, ◌≤◌}
 
 -- How many digits a number has, where it has no more than so many and one.
 unfoldable pub places : ℕ → ℕ → ℕ
 places zero n = 1
 places (suc more) n = cond (ltb n 10) 1 (suc (places more (n / 10)))
 
+-- The last k digits of a number, the highest first, as ASCII has them.
+abbrev pub last_digits : ℕ → ℕ → List ℕ
+last_digits zero n = []
+last_digits (suc k) n = last_digits k (n / 10) ++ (48 + n % 10) ∷ []
+
 -- A u32 has at most ten.
 unfoldable pub decimal_of : ℕ → List ℕ
-decimal_of n = last_digits 10 (places 9 n) n
+decimal_of n = last_digits (places 9 n) n
+
+-- So many bytes from the start on are there to be lent.
+abbrev pub IsPrefixLen : ℕ → List ℕ → Type 0
+IsPrefixLen n bytes = (n ≤ length bytes) × (n ≡ length (take n bytes))
 
 -- What ends number i: a space, and after the last a newline.
 abbrev pub end_of : List ℕ → ℕ → ℕ

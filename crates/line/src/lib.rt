@@ -3,8 +3,7 @@
 #![tactic(auto)]
 
 ghost use Rattle.std.specs.Prelude.{◌≡◌, cond, ◌++◌, ◌∷◌, ◌+◌, ◌*◌, ◌≤◌, ◌<◌, eqb, length, take, drop};
-ghost use Rattle.io.specs.Counts.{IsPrefixLen};
-ghost use Rattle.line.specs.Text.{decimal_of, line_of, count_of, leaves_of, named_count, named_leaves};
+ghost use Rattle.line.specs.Text.{IsPrefixLen, places, last_digits, decimal_of, line_of, count_of, leaves_of, named_count, named_leaves};
 
 // Ten digits and what ends them.
 pub const NUMBER_LENGTH: usize = 11;
@@ -36,7 +35,7 @@ pub fn lay_out_named(name: &[u8], numbers: &[u32], out: &mut [u8]) -> usize
     if (out.len() - start) / NUMBER_LENGTH < numbers.len() {
         return 0;
     }
-    bytes::copy(name, out);
+    out[..name.len()].copy_from_slice(name);
     out[name.len()] = b' ';
     start + lay_out(numbers, &mut out[start..])
 }
@@ -48,10 +47,8 @@ fn put_all(numbers: &[u32], out: &mut [u8]) -> usize
     ensures upper_bound { result ≤ length out.new }
 {
     let mut at: usize = 0;
-    let mut i: usize = 0;
-    while i < numbers.len() {
-        at = put(out, at, numbers[i], end_of(i, numbers.len()));
-        i += 1;
+    for (i, number) in numbers.iter().enumerate() {
+        at = put(out, at, *number, end_of(i, numbers.len()));
     }
     at
 }
@@ -71,9 +68,35 @@ fn put(line: &mut [u8], at: usize, number: u32, end: u8) -> usize
     ensures line_after { line.new ≡ take at line.old ++ (decimal_of number ++ end ∷ drop result line.old) }
     ensures upper_bound { result ≤ at + 11 }
 {
-    let mut digits = [0u8; 20];
-    let count = io::decimal(number as u64, &mut digits);
-    bytes::copy(&digits[..count], &mut line[at..]);
-    line[at + count] = end;
-    at + count + 1
+    let past = at + digit_count(number);
+    put_digits(number, &mut line[at..past]);
+    line[past] = end;
+    past + 1
+}
+
+// How many digits a number has.
+fn digit_count(number: u32) -> usize
+    ensures count { result ≡ places 9 number }
+    ensures upper_bound { result ≤ 10 }
+{
+    let mut rest = number;
+    let mut count = 1;
+    while rest >= 10 {
+        rest /= 10;
+        count += 1;
+    }
+    count
+}
+
+// Fills what is lent with the last digits of a number, from its end on.
+fn put_digits(number: u32, out: &mut [u8])
+    ensures { out.new ≡ last_digits (length out.old) number }
+{
+    let mut rest = number;
+    let mut at = out.len();
+    while at > 0 {
+        at -= 1;
+        out[at] = b'0' + (rest % 10) as u8;
+        rest /= 10;
+    }
 }
