@@ -6,33 +6,35 @@
 
 use answer::Answer;
 use input::Input;
-use libc::{STDIN_FILENO, STDOUT_FILENO};
 use line::NUMBER_LENGTH;
 use trace::{ENOUGH, Shape};
 
-fn main() {
+fn main(rt: HostRuntime) {
     let mut beginning = [0u8; ENOUGH];
-    match input::read(STDIN_FILENO, &mut beginning) {
-        Input::Whole { held, total } => print_shape(trace::check(&beginning[..held], total)),
-        Input::Unread => print_answer(Answer::NoVerdict),
+    match input::read(&mut rt.stdin(), &mut beginning) {
+        Input::Whole { held, total } => print_shape(&rt, trace::check(&beginning[..held], total)),
+        Input::Unread(_) => print_answer(&rt, Answer::NoVerdict),
     }
 }
 
-fn print_shape(shape: Shape) {
+fn print_shape(rt: &impl Print, shape: Shape) {
     match shape {
-        Shape::Formed(header) => print(&[header.events, header.global, header.shared]),
-        Shape::Refused(answer) => print_answer(answer),
+        Shape::Formed(header) => print(rt, &[header.events, header.global, header.shared]),
+        Shape::Refused(answer) => print_answer(rt, answer),
     }
 }
 
-fn print_answer(answer: Answer) {
+fn print_answer(rt: &impl Print, answer: Answer) {
     let numbers = answer.numbers();
-    print(&[numbers.code, numbers.event, numbers.partner, numbers.peak]);
+    print(
+        rt,
+        &[numbers.code, numbers.event, numbers.partner, numbers.peak],
+    );
 }
 
-// One write, so that a pipe has the line whole or not at all.
-fn print(numbers: &[u32]) {
+// One write, so that a pipe has the line whole or not at all. Nobody is left to tell of one that fails.
+fn print(rt: &impl Print, numbers: &[u32]) {
     let mut line = [0u8; 4 * NUMBER_LENGTH];
     let length = line::lay_out(numbers, &mut line);
-    io::write_all(STDOUT_FILENO, &line[..length]);
+    let _ = rt.write_all(&line[..length]);
 }
