@@ -1,4 +1,3 @@
 -- The laws of an input's beginning.
 pub mod Kept
 pub mod Reading
-pub mod Holding

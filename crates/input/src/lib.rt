@@ -5,8 +5,13 @@
 ghost use Rattle.std.specs.Prelude.{◌≡◌, min};
 ghost use Rattle.input.specs.Held.{Held, HeldOf, kept_in};
 
-use std::io;
-use std::io::Read;
+use std::fs::File;
+use std::io::{ErrorKind, Read};
+use std::rt::Files;
+use std::{io, str};
+
+// No path is longer, the zero behind it counted.
+pub const PATH_MAX: usize = 4096;
 
 #[derive(Drop)]
 pub enum Input {
@@ -14,6 +19,14 @@ pub enum Input {
     Whole { held: usize, total: usize },
     // A read failed, or the input did not end.
     Unread(io::Error),
+}
+
+// Opens the file of this name. A path of the library's is text: no file can be opened by a name that is not UTF-8.
+pub fn open<R: Files>(files: &R, name: &[u8]) -> io::Result<R::File> {
+    match str::from_utf8(name) {
+        Ok(path) => File::open(files, path),
+        Err(_) => Err(io::Error::new(ErrorKind::InvalidFilename, "the name is not UTF-8")),
+    }
 }
 
 // Reads to the end of the input. A proved loop has to end, and nothing says that an input does: past so many pieces it is

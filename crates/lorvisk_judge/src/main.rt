@@ -5,100 +5,118 @@
 
 #![tactic(auto)]
 
-ghost use Rattle.io.specs.Counts.{IsPrefixLen};
+ghost use Rattle.std.specs.Prelude.{◌≡◌, ◌≢◌, ◌<◌, ℕ, length, slice_index};
+ghost use Rattle.line.specs.Text.{IsPrefixLen};
 
 use answer::{Answer, SHEET_LENGTH};
-use bytes::scan;
-use input::Input;
-use libc::{PATH_MAX, STDERR_FILENO, STDIN_FILENO, STDOUT_FILENO};
+use input::{Input, PATH_MAX};
 use line::NUMBER_LENGTH;
+use std::env::{Env, FillError};
+use std::io;
+use std::io::Read;
 use trace::ENOUGH;
 
-fn main() {
-    let count = os::arg_count();
-    if count <= 1 {
-        judge_input();
+// The system's number of the error that a name is longer than any path.
+const NAME_TOO_LONG: i32 = 36;
+
+fn main(rt: HostRuntime) {
+    if !judge_argument(&rt, 1) {
+        judge_input(&rt);
+        return;
     }
-    let mut argument = 1;
-    while argument < count {
-        judge_argument(argument);
-        argument += 1;
+    for argument in 2..usize::MAX {
+        if !judge_argument(&rt, argument) {
+            return;
+        }
     }
 }
 
-fn judge_input() {
-    let answer = answer_from(STDIN_FILENO, b"standard input");
+fn judge_input(rt: &HostRuntime) {
+    let answer = answer_from(rt, &mut rt.stdin(), b"standard input");
     let mut sheet = [0u8; SHEET_LENGTH];
     answer::write_sheet(answer, &mut sheet);
-    io::write_all(STDOUT_FILENO, &sheet);
+    let _ = rt.write_all(&sheet);
 }
 
-// No path is longer than the buffer, so of a longer name the line has the first bytes.
-fn judge_argument(argument: usize) {
-    let mut name = io::buffer();
-    let length = os::arg(argument, &mut name);
-    if os::errno() != 0 {
-        not_read(&name);
-        return;
+// Says whether there is such an argument. No path is longer than the buffer, so of a longer name the line has the first bytes.
+fn judge_argument(rt: &HostRuntime, argument: usize) -> bool {
+    let mut name = [0u8; PATH_MAX];
+    match rt.arg(argument, &mut name) {
+        Ok(length) => judge_name(rt, &name[..length]),
+        Err(FillError::TooLong) => {
+            not_read(rt, &name, io::Error::from_raw_os_error(NAME_TOO_LONG));
+        }
+        Err(FillError::NotPresent) => return false,
     }
-    judge_name(&name[..length]);
+    true
 }
 
-fn judge_name(name: &[u8]) {
+fn judge_name(rt: &HostRuntime, name: &[u8]) {
     let line = first_line(name);
     if line < name.len() {
-        not_one_line(&name[..line]);
+        not_one_line(rt, &name[..line]);
         return;
     }
-    let fd = os::open_read(name);
-    if fd < 0 {
-        not_read(name);
-        return;
+    match input::open(rt, name) {
+        Ok(mut file) => {
+            let answer = answer_from(rt, &mut file, name);
+            print(rt, name, answer);
+        }
+        Err(error) => not_read(rt, name, error),
     }
-    let answer = answer_from(fd, name);
-    libc::close(fd);
-    print(name, answer);
 }
 
 // How many bytes of a name stand before its first newline.
 fn first_line(name: &[u8]) -> usize
-    ensures { IsPrefixLen result name.now }
+    ensures prefix_len { IsPrefixLen result name.now }
+    ensures before { (k : ℕ) → k < result → slice_index name.now k ≢ 10 }
+    ensures newline { result < length name.now → slice_index name.now result ≡ 10 }
 {
-    scan::find(name, 0, name.len(), b'\n')
+    for (i, byte) in name.iter().enumerate() {
+        if *byte == b'\n' {
+            return i;
+        }
+    }
+    name.len()
 }
 
-fn not_one_line(beginning: &[u8]) {
-    io::write_all(STDERR_FILENO, beginning);
-    io::write_all(
-        STDERR_FILENO,
+fn not_one_line(rt: &HostRuntime, beginning: &[u8]) {
+    let _ = rt.stderr().write_all(beginning);
+    let _ = rt.stderr().write_all(
         b": the name goes on after a newline: judge the file on standard input\n",
     );
-    print(beginning, Answer::NoVerdict);
+    print(rt, beginning, Answer::NoVerdict);
 }
 
-fn not_read(name: &[u8]) {
+fn not_read(rt: &HostRuntime, name: &[u8], error: io::Error) {
     let line = first_line(name);
-    os::fail(&name[..line]);
-    print(&name[..line], Answer::NoVerdict);
+    fail(rt, &name[..line], error);
+    print(rt, &name[..line], Answer::NoVerdict);
 }
 
 // The answer of the input, which has this name on standard error.
-fn answer_from(fd: i32, name: &[u8]) -> Answer {
+fn answer_from<R: Read>(rt: &HostRuntime, file: &mut R, name: &[u8]) -> Answer {
     let mut beginning = [0u8; ENOUGH];
-    match input::read(fd, &mut beginning) {
+    match input::read(file, &mut beginning) {
         Input::Whole { held, total } => judge::judge_beginning(&beginning[..held], total),
-        Input::Unread => {
-            os::fail(name);
+        Input::Unread(error) => {
+            fail(rt, name, error);
             Answer::NoVerdict
         }
     }
 }
 
+// A line on standard error. Of a write that fails there nobody is left to tell, as of one on standard output.
+fn fail(rt: &HostRuntime, name: &[u8], error: io::Error) {
+    let _ = rt.stderr().write_all(name);
+    let _ = eprintln!(rt; ": {error}");
+}
+
 // One write, so that a pipe has the line whole or not at all.
-fn print(name: &[u8], answer: Answer) {
+fn print(rt: &impl Print, name: &[u8], answer: Answer) {
     let numbers = answer.numbers();
     let four = [numbers.code, numbers.event, numbers.partner, numbers.peak];
     let mut line = [0u8; PATH_MAX + 1 + 4 * NUMBER_LENGTH];
     let length = line::lay_out_named(name, &four, &mut line);
-    io::write_all(STDOUT_FILENO, &line[..length]);
+    let _ = rt.write_all(&line[..length]);
 }

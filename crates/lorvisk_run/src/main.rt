@@ -9,8 +9,9 @@ ghost use Rattle.std.specs.Prelude.{List, ℕ, ◌+◌, ◌^◌, ◌<◌};
 ghost use Rattle.input.specs.Held.{Held};
 
 use answer::{Answer, SHEET_LENGTH};
-use input::Input;
-use libc::{STDERR_FILENO, STDOUT_FILENO};
+use input::{Input, PATH_MAX};
+use std::env::{Env, FillError};
+use std::io;
 use trace::{ENOUGH, MEMORY_LIMIT};
 
 // A byte more than a memory may have: a longer file fills it, and has no length that a header may say.
@@ -19,59 +20,69 @@ const MEMORY_ROOM: usize = MEMORY_LIMIT as usize + 1;
 // The longest load record that is taken. 1,024 loads of 16 bytes fill a quarter of it.
 const RECORD_ROOM: usize = MEMORY_LIMIT as usize;
 
-fn main() {
-    let count = os::arg_count();
+// The system's number of the error that a name is longer than any path.
+const NAME_TOO_LONG: i32 = 36;
+
+fn main(rt: HostRuntime) {
+    let count = arg_count(&rt);
     // With a name too few or too many, every four after it would be made of the wrong files.
     if (count < 5) | (count % 4 != 1) {
-        io::write_all(
-            STDERR_FILENO,
-            b"usage: lorvisk_run TRACE GLOBAL SHARED LOADS [TRACE GLOBAL SHARED LOADS]..\n",
+        let _ = eprintln!(rt;
+            "usage: lorvisk_run TRACE GLOBAL SHARED LOADS [TRACE GLOBAL SHARED LOADS].."
         );
-        no_verdict();
+        no_verdict(&rt);
         return;
     }
-    let mut argument = 1;
-    while 4 <= count - argument {
-        run_four(argument);
-        argument += 4;
+    for four in 0..count / 4 {
+        run_four(&rt, 4 * four + 1);
     }
 }
 
+// How many arguments there are, and the program's own name before them.
+fn arg_count(rt: &impl Env) -> usize {
+    for count in 0..usize::MAX {
+        if let Err(FillError::NotPresent) = rt.arg(count, &mut []) {
+            return count;
+        }
+    }
+    usize::MAX
+}
+
 // The four files named from this argument on.
-fn run_four(argument: usize)
+fn run_four(rt: &HostRuntime, argument: usize)
     requires { argument + 3 < 2 ^ 64 }
 {
     let mut file = [0u8; ENOUGH];
     let mut global = [0u8; MEMORY_ROOM];
     let mut shared = [0u8; MEMORY_ROOM];
     let mut loads = [0u8; RECORD_ROOM];
-    let read_file = read(argument, usize::MAX, &mut file);
-    let read_global = read(argument + 1, usize::MAX, &mut global);
-    let read_shared = read(argument + 2, usize::MAX, &mut shared);
-    let read_loads = read(argument + 3, RECORD_ROOM, &mut loads);
+    let read_file = read(rt, argument, usize::MAX, &mut file);
+    let read_global = read(rt, argument + 1, usize::MAX, &mut global);
+    let read_shared = read(rt, argument + 2, usize::MAX, &mut shared);
+    let read_loads = read(rt, argument + 3, RECORD_ROOM, &mut loads);
     let Input::Whole { held, total } = read_file else {
-        return no_verdict();
+        return no_verdict(rt);
     };
     let Input::Whole {
         held: global_held,
         ..
     } = read_global
     else {
-        return no_verdict();
+        return no_verdict(rt);
     };
     let Input::Whole {
         held: shared_held,
         ..
     } = read_shared
     else {
-        return no_verdict();
+        return no_verdict(rt);
     };
     let Input::Whole { held: room, .. } = read_loads else {
-        return no_verdict();
+        return no_verdict(rt);
     };
-    let beginning = &file[..held];
     run_lent(
-        beginning,
+        rt,
+        &file[..held],
         total,
         &mut global[..global_held],
         &mut shared[..shared_held],
@@ -79,7 +90,9 @@ fn run_four(argument: usize)
     );
 }
 
+// Nobody is left to tell of a write that fails.
 fn run_lent(
+    rt: &impl Print,
     beginning: &[u8],
     total: usize,
     global: &mut [u8],
@@ -89,57 +102,58 @@ fn run_lent(
     let answer = run::run_beginning(beginning, total, global, shared, loads);
     let mut sheet = [0u8; SHEET_LENGTH];
     answer::write_sheet(answer, &mut sheet);
-    io::write_all(STDOUT_FILENO, &sheet);
+    let _ = rt.write_all(&sheet);
     if let Answer::Accepted { .. } = answer {
-        io::write_all(STDOUT_FILENO, loads);
-        io::write_all(STDOUT_FILENO, global);
-        io::write_all(STDOUT_FILENO, shared);
+        let _ = rt.write_all(loads);
+        let _ = rt.write_all(global);
+        let _ = rt.write_all(shared);
     }
 }
 
-fn no_verdict() {
+fn no_verdict(rt: &impl Print) {
     let sheet = [0u8; SHEET_LENGTH];
-    io::write_all(STDOUT_FILENO, &sheet);
+    let _ = rt.write_all(&sheet);
 }
 
-// Reads the file that an argument names, of `most` bytes at most. One that is not read has its line on standard error.
-fn read(argument: usize, most: usize, bytes: &mut [u8]) -> Input
+// Reads the file that an argument names, of `most` bytes at most. One that is not read has its line on standard error. No path
+// is longer than the buffer, so of a longer name the line has the first bytes.
+fn read(rt: &HostRuntime, argument: usize, most: usize, bytes: &mut [u8]) -> Input
     ensures { Held result bytes.old bytes.new }
 {
-    let mut name = io::buffer();
-    let length = os::arg(argument, &mut name);
-    if os::errno() != 0 {
-        os::fail(&name);
-        return Input::Unread;
+    let mut name = [0u8; PATH_MAX];
+    match rt.arg(argument, &mut name) {
+        Ok(length) => read_named(rt, &name[..length], most, bytes),
+        Err(_) => unread(rt, &name, io::Error::from_raw_os_error(NAME_TOO_LONG)),
     }
-    read_named(&name[..length], most, bytes)
 }
 
-fn read_named(name: &[u8], most: usize, bytes: &mut [u8]) -> Input
+fn read_named(rt: &HostRuntime, name: &[u8], most: usize, bytes: &mut [u8]) -> Input
     ensures { Held result bytes.old bytes.new }
 {
-    let fd = os::open_read(name);
-    if fd < 0 {
-        os::fail(name);
-        return Input::Unread;
+    match input::open(rt, name) {
+        Ok(mut file) => taken(rt, input::read(&mut file, bytes), most, name),
+        Err(error) => unread(rt, name, error),
     }
-    let found = taken(input::read(fd, bytes), most, name);
-    libc::close(fd);
-    found
 }
 
 // What was read, if that was done and is not too long.
-fn taken(found: Input, most: usize, name: &[u8]) -> Input
+fn taken(rt: &HostRuntime, found: Input, most: usize, name: &[u8]) -> Input
     ensures { (before after : List ℕ) → Held found before after → Held result before after }
 {
-    let Input::Whole { total, .. } = found else {
-        os::fail(name);
-        return found;
-    };
-    if total <= most {
-        return found;
+    match found {
+        Input::Whole { total, .. } if most < total => {
+            unread(rt, name, io::Error::other("more than 65536 bytes"))
+        }
+        Input::Whole { held, total } => Input::Whole { held, total },
+        Input::Unread(error) => unread(rt, name, error),
     }
-    io::write_all(STDERR_FILENO, name);
-    io::write_all(STDERR_FILENO, b": more than 65536 bytes\n");
-    Input::Unread
+}
+
+// Says on standard error why the file of this name is not read.
+fn unread(rt: &HostRuntime, name: &[u8], error: io::Error) -> Input
+    ensures { (before after : List ℕ) → Held result before after }
+{
+    let _ = rt.stderr().write_all(name);
+    let _ = eprintln!(rt; ": {error}");
+    Input::Unread(error)
 }
