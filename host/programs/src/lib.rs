@@ -1,12 +1,14 @@
 //! Starts the proved programs and takes what they write, over pipes. A program that cannot be started, dies, or writes
 //! anything but what was asked of it has said nothing: that is an error here (`Silence`), never an answer.
 
+mod lent;
 mod numbers;
 mod program;
 
 pub use program::Silence;
 
 use answer::Numbers;
+use lent::Lent;
 use numbers::{line_of_numbers, named_line};
 use program::Program;
 use std::ffi::OsStr;
@@ -43,8 +45,10 @@ impl Programs {
     /// The answers of the files of these names, in one start. A name with a newline has none.
     pub fn judge_named(&self, names: &[&OsStr]) -> Result<Vec<Numbers>, Silence> {
         let judge = self.program("lorvisk_judge")?;
+        let lent: Vec<Lent> = names.iter().map(|name| Lent::of(name)).collect();
+        let names: Vec<&OsStr> = lent.iter().map(Lent::name).collect();
         let most = names.iter().map(|name| name.len() + LINE_ROOM).sum();
-        let written = judge.written(names, Stdio::null(), b"", most)?;
+        let written = judge.written(&names, Stdio::null(), b"", most)?;
         let mut rest = written.as_slice();
         let mut answers = Vec::new();
         for name in names {
@@ -62,11 +66,12 @@ impl Programs {
     /// What the runs of these fours of files write, one after the other: a sheet and, where it is an acceptance, the load
     /// record, the global and the shared memory. That is `most` bytes at most.
     pub fn run(&self, fours: &[[&Path; 4]], input: Stdio, most: usize) -> Result<Vec<u8>, Silence> {
-        let names: Vec<&OsStr> = fours
+        let lent: Vec<Lent> = fours
             .iter()
             .flatten()
-            .map(|name| name.as_os_str())
+            .map(|name| Lent::of(name.as_os_str()))
             .collect();
+        let names: Vec<&OsStr> = lent.iter().map(Lent::name).collect();
         self.program("lorvisk_run")?
             .written(&names, input, b"", most)
     }
