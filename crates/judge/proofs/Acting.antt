@@ -10,7 +10,6 @@ use Rattle.answer.specs.declared.Answer.TheVariants.{Clash}
 use Rattle.operations.specs.declared.Partner.{Partner}
 use Rattle.operations.specs.declared.Partner.TheVariants.{Event, Nobody}
 use Rattle.operations.specs.declared.Record.{Record}
-use Rattle.operations.specs.declared.Wait.{Wait}
 use Rattle.operations.specs.Table.{range_words, mark_words, records, placed}
 use Rattle.operations.specs.Clash.{first_clash}
 use Rattle.operations.specs.Waiting.{kept}

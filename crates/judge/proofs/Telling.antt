@@ -20,7 +20,6 @@ use Rattle.little_endian.proofs.Tests.{both}
 use Rattle.decoder.specs.declared.Item.{Item}
 use Rattle.operations.specs.Table.{range_words, mark_words, placed}
 use Rattle.rules.specs.Faults.{Lengths, are_memory_lengths}
-use Rattle.rules.specs.Peak.{peak}
 use Rattle.rules.specs.Answers.{judged, answer_of}
 use Rattle.rules.proofs.Files.{list_fits}
 use Rattle.judge.specs.declared.State.{State}

@@ -16,11 +16,10 @@ use Rattle.event.specs.declared.Event.TheVariants.{Load, Store, Copy, Commit, Wa
 use Rattle.decoder.specs.declared.Item.{Item}
 use Rattle.decoder.specs.declared.Item.TheVariants.{Decoded, UnknownKind, WrongBodyLength, FieldNotAllowed}
 use Rattle.decoder.specs.Kinds.{is_decoded}
-use Rattle.effect.specs.Memory.{Global, Shared}
 use Rattle.trace.specs.File.{first_items}
 use Rattle.trace.proofs.Faults.{length-first, further}
 use Rattle.rules.specs.Events.{event_at}
-use Rattle.rules.specs.Faults.{Lengths, faultless}
+use Rattle.rules.specs.Faults.{Lengths}
 use Rattle.rules.specs.Answers.{answer_of}
 use Rattle.rules.proofs.Accepted.{accepted-items, accepted_well_formed}
 use Rattle.rules.specs.Outcomes.{load_size}

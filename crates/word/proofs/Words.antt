@@ -1,10 +1,9 @@
 -- Words, and the bodies of sheets that they are made of.
 -- Assumes nothing.
-use Prim.Native.Nat.{ℕ, zero, suc, ◌+◌, ◌*◌, ◌/◌, ◌%◌, ◌^◌, ◌<◌}
+use Prim.Native.Nat.{ℕ, zero, suc, ◌+◌, ◌*◌, ◌%◌, ◌^◌, ◌<◌}
 use mathlib.Core.Path.{◌≡◌, refl, ap, ap₂, ◌∙◌}
 use mathlib.Core.Bool.{Bool, true, false}
 use mathlib.Core.List.{List, [], ◌∷◌, ◌++◌}
-use native.Mathlib.Omega.{arith}
 use native.Mathlib.Nat.{mod-lt}
 use lib.Arith.{digits_lt}
 use lib.Dec.{lit<}
@@ -14,10 +13,9 @@ use lib.Seq.{sets}
 use Rattle.little_endian.specs.Number.{Bytes, number_at, bytes_of}
 use Rattle.little_endian.proofs.Widths.{each-byte, back}
 use Rattle.answer.specs.declared.Answer.{Answer}
-use Rattle.answer.specs.declared.Answer.TheVariants.{NoVerdict}
 use Rattle.answer.specs.Numbers.{numbers_of}
 use Rattle.answer.specs.Table.{fit}
-use Rattle.answer.specs.Sheet.{two_each, in_order, sheet_of, read_of, is_written, write_leaves}
+use Rattle.answer.specs.Sheet.{two_each, in_order, sheet_of, is_written, write_leaves}
 use Rattle.answer.proofs.TwoBytes.{each-bytes}
 use Rattle.word.specs.Word.{body_of, sheet_with, turned}
 

@@ -1,6 +1,6 @@
 -- `file::judge_items` meets its contract: after each turn the state and the places are as the judge leaves them for the items
 -- so far.
-use Prim.Native.Nat.{◌+◌, ◌-◌}
+use Prim.Native.Nat.{◌+◌}
 use native.Mathlib.Omega.{arith}
 use mathlib.Core.Path.{◌≡◌, refl, sym, ap, ◌∙◌}
 use mathlib.Core.List.{[], ◌∷◌, ◌++◌}

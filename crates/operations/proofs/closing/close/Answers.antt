@@ -1,5 +1,4 @@
 -- `close` meets its contract.
-use Prim.Native.Nat.{◌-◌}
 use native.Mathlib.Omega.{arith}
 use Rattle.operations.proofs.Keeping.{closed-start, closed-next}
 use Rattle.operations.proofs.closing.close.Goals as goal

@@ -1,5 +1,4 @@
 -- `first_clash` meets its contract: none of the records before the index clashes.
-use Prim.Native.Nat.{◌-◌}
 use native.Mathlib.Omega.{arith}
 use mathlib.Core.Path.{refl, sym, ap, ◌∙◌}
 use Rattle.operations.specs.declared.Partner.TheVariants.{Event}

@@ -1,5 +1,4 @@
 -- `events::act_all` meets its contract: after each turn the events so far have acted.
-use Prim.Native.Nat.{◌-◌}
 use native.Mathlib.Omega.{arith}
 use mathlib.Core.Path.{refl, sym, ap, ap₂, ◌∙◌}
 use Rattle.trace.specs.File.{body_lengths, first_items}

@@ -1,5 +1,4 @@
 -- `events::load_bytes` meets its contract.
-use Prim.Native.Nat.{◌-◌}
 use native.Mathlib.Omega.{arith}
 use mathlib.Core.Path.{refl, ap, ◌∙◌}
 use Rattle.trace.specs.File.{body_lengths, first_items}

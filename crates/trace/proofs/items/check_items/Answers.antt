@@ -1,6 +1,5 @@
 -- `trace::items::check_items` meets its contract: the items passed all decode, and the next body starts where they end.
 -- The measure is the number of events left.
-use Prim.Native.Nat.{◌-◌}
 use mathlib.Core.Path.{◌≡◌, refl, sym, ◌∙◌}
 use mathlib.Core.Bool.{true}
 use native.Mathlib.Omega.{arith}

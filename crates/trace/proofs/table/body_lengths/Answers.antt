@@ -1,6 +1,5 @@
 -- `trace::table::body_lengths` meets its contract: after each turn the lengths passed are added.
 -- The measure is the number of entries left.
-use Prim.Native.Nat.{◌-◌}
 use mathlib.Core.Path.{refl}
 use native.Mathlib.Omega.{arith}
 use Rattle.trace.specs.File.{body_lengths}

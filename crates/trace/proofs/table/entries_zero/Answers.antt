@@ -1,6 +1,5 @@
 -- `trace::table::entries_zero` meets its contract: after each turn the entries passed are looked at.
 -- The measure is the number of entries left.
-use Prim.Native.Nat.{◌-◌}
 use mathlib.Core.Path.{refl}
 use native.Mathlib.Omega.{arith}
 use Rattle.trace.specs.File.{entries_zero}
