@@ -1,7 +1,8 @@
 // Runs trace files. Arguments in fours: the names of a trace file, of its global and its shared memory, and of a load
 // record, whose length is its room. For each four, on standard output: the verdict sheet and, only where the file is
 // accepted, the load record, the global and the shared memory as the run leaves them. No file is changed. Where one cannot
-// be read to its end there is no verdict: twelve zero bytes, and a line on standard error.
+// be read to its end there is no verdict: twelve zero bytes, and a line on standard error. The library opens no file whose name
+// is not UTF-8.
 
 #![tactic(auto)]
 
