@@ -2,7 +2,7 @@
 
 #![tactic(auto)]
 
-ghost use Rattle.std.specs.Prelude.{◌≡◌, min};
+ghost use Rattle.std.specs.Prelude.{◌≡◌, min, IfOk, IsUtf8};
 ghost use Rattle.input.specs.Held.{Held, HeldOf, kept_in};
 
 use std::fs::File;
@@ -22,7 +22,9 @@ pub enum Input {
 }
 
 // Opens the file of this name. A path of the library's is text: no file can be opened by a name that is not UTF-8.
-pub fn open<R: Files>(files: &R, name: &[u8]) -> io::Result<R::File> {
+pub fn open<R: Files>(files: &R, name: &[u8]) -> io::Result<R::File>
+    ensures { IfOk result (λ _. IsUtf8 name.now) }
+{
     match str::from_utf8(name) {
         Ok(path) => File::open(files, path),
         Err(_) => Err(io::Error::new(ErrorKind::InvalidFilename, "the name is not UTF-8")),

@@ -1,8 +1,9 @@
 -- The digits of a number: how many there are, and that they are written from the last on.
 -- Assumes nothing.
-use Rattle.std.proofs.Common.{◌≡◌, ℕ, zero, suc, ◌+◌, ◌-◌, ◌/◌, ◌^◌, ◌≤◌, ◌<◌, length, refl, ◌∙◌, arith, length-append}
+use Rattle.std.proofs.Common.{◌≡◌, Bool, true, false, ℕ, zero, suc, ◌+◌, ◌-◌, ◌*◌, ◌/◌, ◌^◌, ◌≤◌, ◌<◌, length, refl, ◌∙◌, arith, length-append}
 use Rattle.std.proofs.Math.Nat.{pow-succ'}
-use borrow.Author.Tests.{lt-ltb, le-ltb}
+use borrow.Author.Tests.{lt-ltb, le-ltb, ltb-true, ltb-false}
+use lib.Dec.{ltb}
 use Rattle.line.specs.Text.{places, last_digits, decimal_of}
 
 -- ---- how many
@@ -15,6 +16,35 @@ places-small (suc more) n small = rw (lt-ltb n 10 small) refl
 places-large : (more n : ℕ) → 10 ≤ n → places (suc more) n ≡ suc (places more (n / 10))
 unfolding places
 places-large more n large = rw (le-ltb n 10 large) refl
+
+-- What a number has above its last digit, and a digit more.
+low : (p n : ℕ) → 10 ≤ n → (1 < p → 10 ^ (p - 1) ≤ n / 10) → 10 ^ p ≤ n
+low zero n several below = omega arith
+low (suc zero) n several below = several
+low (suc (suc j)) n several below =
+    let one_less : suc (suc j) - 1 ≡ suc j = omega arith in
+    let held : 10 ^ suc j ≤ n / 10 = rw one_less at (below (omega arith)) in
+    rw (pow-succ' 10 (suc j)) (omega arith)
+
+-- They are the fewest that hold it.
+pub fewest : (more n : ℕ) → n < 10 ^ suc more
+    → (n < 10 ^ places more n) × (1 < places more n → 10 ^ (places more n - 1) ≤ n)
+unfolding places
+fewest zero n small = (small, λ several. absurd (omega arith))
+fewest (suc more) n small = go (ltb n 10) refl (fewest more (n / 10) shorter)
+  where
+    shorter : n / 10 < 10 ^ suc more
+    shorter = let whole : n < 10 * 10 ^ suc more = rw (← pow-succ' 10 (suc more)) small in omega arith
+
+    go : (t : Bool) → ltb n 10 ≡ t
+        → (n / 10 < 10 ^ places more (n / 10)) × (1 < places more (n / 10) → 10 ^ (places more (n / 10) - 1) ≤ n / 10)
+        → (n < 10 ^ places (suc more) n) × (1 < places (suc more) n → 10 ^ (places (suc more) n - 1) ≤ n)
+    go true e rest = rw e (ltb-true n 10 e, λ several. absurd (omega arith))
+    go false e rest =
+        let p = places more (n / 10) in
+        let many : 10 ≤ n = ltb-false n 10 e in
+        let one_less : suc p - 1 ≡ p = omega arith in
+        rw e (rw (pow-succ' 10 p) (omega (arith, rest.0)), λ several. rw one_less (low p n many rest.1))
 
 -- With `left` places left for the digits before the last, a digit more is counted.
 pub counted_more : (left count rest all : ℕ) → count + left ≡ 10 → rest / 10 < 10 ^ left → 10 ≤ rest

@@ -2,7 +2,7 @@
 
 #![tactic(auto)]
 
-ghost use Rattle.std.specs.Prelude.{◌≡◌, cond, ◌++◌, ◌∷◌, ◌+◌, ◌*◌, ◌≤◌, ◌<◌, eqb, length, take, drop};
+ghost use Rattle.std.specs.Prelude.{◌≡◌, cond, ◌++◌, ◌∷◌, ◌+◌, ◌-◌, ◌*◌, ◌^◌, ◌≤◌, ◌<◌, eqb, length, take, drop};
 ghost use Rattle.line.specs.Text.{IsPrefixLen, places, last_digits, decimal_of, line_of, count_of, leaves_of, named_count, named_leaves};
 
 // Ten digits and what ends them.
@@ -74,9 +74,11 @@ fn put(line: &mut [u8], at: usize, number: u32, end: u8) -> usize
     past + 1
 }
 
-// How many digits a number has.
+// How many digits a number has: the fewest that hold it.
 fn digit_count(number: u32) -> usize
     ensures count { result ≡ places 9 number }
+    ensures holds { number < 10 ^ result }
+    ensures fewest { 1 < result → 10 ^ (result - 1) ≤ number }
     ensures upper_bound { result ≤ 10 }
 {
     let mut rest = number;

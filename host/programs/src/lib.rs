@@ -42,7 +42,7 @@ impl Programs {
         written.try_into().map_err(|_| judge.wrote_less(length))
     }
 
-    /// The answers of the files of these names, in one start. A name with a newline has none.
+    /// The answers of the files of these names, in one start. A name in UTF-8 with a newline has none.
     pub fn judge_named(&self, names: &[&OsStr]) -> Result<Vec<Numbers>, Silence> {
         let judge = self.program("lorvisk_judge")?;
         let lent: Vec<Lent> = names.iter().map(|name| Lent::of(name)).collect();
