@@ -1,7 +1,7 @@
 /* Lorvisk, a proved judge of GPU traces, for C and C++: judge a trace file, run it over two memories, write and read verdict
- * sheets. The functions stand in liblorvisk.a (x86-64), which `rt lib` in crates/lorvisk writes; they need memcpy and memset
- * and nothing else, keep nothing between calls, allocate nothing, and may be called by several threads at once. A call uses
- * less than 64 KiB of stack.
+ * sheets. The functions stand in liblorvisk.a (x86-64), which `rt lib --cpu x86-64` in crates/lorvisk writes; they need memcpy
+ * and memset and nothing else, keep nothing between calls, allocate nothing, and may be called by several threads at once. A
+ * call uses less than 64 KiB of stack.
  *
  * What each promises is proved of its code (crates/lorvisk/src/lib.rt) for bytes of every value and for every length.
  *

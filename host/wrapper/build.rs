@@ -1,4 +1,4 @@
-//! Links the proved library, `liblorvisk.a`, as `rt lib` in `crates/lorvisk` writes it.
+//! Links the proved library, `liblorvisk.a`, as `rt lib --cpu x86-64` in `crates/lorvisk` writes it.
 
 use std::path::Path;
 use std::process::exit;
@@ -13,7 +13,7 @@ fn main() {
     println!("cargo:rerun-if-changed={}", archive.display());
     if !archive.is_file() {
         eprintln!(
-            "{} is not there: write it with `rt lib` in crates/lorvisk",
+            "{} is not there: write it with `rt lib --cpu x86-64` in crates/lorvisk",
             archive.display()
         );
         exit(1);
