@@ -3,18 +3,20 @@
 use Prim.Native.Nat.{ℕ, ◌≤◌}
 use mathlib.Core.Path.{◌≡◌, refl, sym, ap, ◌∙◌}
 use mathlib.Core.Bool.{Bool, true, false, ◌&&◌}
-use mathlib.Core.List.{List, ◌++◌}
+use mathlib.Core.List.{List, [], ◌∷◌, ◌++◌}
 use native.Mathlib.Omega.{arith}
 use lib.Dec.{leb}
-use lib.ListN.{length, drop}
+use lib.ListN.{length, drop, replicate}
+use lib.Seq.{sets}
 use borrow.Author.Tests.{leb-true}
+use Rattle.little_endian.specs.Number.{bytes_of}
 use Rattle.little_endian.proofs.Tests.{both}
 use Rattle.answer.specs.declared.Answer.{Answer}
 use Rattle.answer.specs.declared.Answer.TheVariants.{NotWritten}
 use Rattle.answer.specs.declared.Numbers.{Numbers}
 use Rattle.answer.specs.Numbers.{numbers_of}
 use Rattle.answer.specs.Table.{fit}
-use Rattle.answer.specs.Sheet.{laid_out, sheet_of, is_written, done, write_answer, write_leaves}
+use Rattle.answer.specs.Sheet.{two_each, laid_out, sheet_of, is_written, done, write_answer, write_leaves}
 
 pub never : NotWritten ≡ done → ⊥
 never h = let other : ◌≡◌ {A = ℕ} 12 1 = ap (λ (a : Answer). (numbers_of a).code) h in omega arith
@@ -53,3 +55,12 @@ module _ (answer : Answer) (out : List ℕ) where
 pub copied : (answer : Answer) (n : Numbers) (sheet out : List ℕ) → n ≡ numbers_of answer → sheet ≡ laid_out n
     → sheet ++ drop 12 out ≡ sheet_of answer ++ drop 12 out
 copied answer n sheet out m h = rw (h, m)
+
+-- Numbers that are put in two bytes each, one after another, fill a sheet.
+pub filled : (at long event partner peak code : ℕ) (s t u v w x : List ℕ)
+    → s ≡ sets (replicate 12 0) 0 (bytes_of 2 at) → t ≡ sets s 2 (bytes_of 2 long)
+    → u ≡ sets t 4 (bytes_of 2 event) → v ≡ sets u 6 (bytes_of 2 partner)
+    → w ≡ sets v 8 (bytes_of 2 peak) → x ≡ sets w 10 (bytes_of 2 code)
+    → x ≡ two_each (at ∷ long ∷ event ∷ partner ∷ peak ∷ code ∷ [])
+unfolding bytes_of
+filled at long event partner peak code s t u v w x a b c d e f = rw (f, e, d, c, b, a)

@@ -23,10 +23,6 @@ numbers_of (Clash event partner) = four 10 event partner 0
 numbers_of (NoRoom event) = four 11 event 0 0
 numbers_of NotWritten = four 12 0 0 0
 
--- The same in a list, the code first. It serves an inner function: no promise of a public one cites it.
-abbrev pub code_first : Answer → List ℕ
-code_first a = (numbers_of a).code ∷ (numbers_of a).event ∷ (numbers_of a).partner ∷ (numbers_of a).peak ∷ []
-
 -- The cases of the table, from code 0 on, each with those of the numbers that it holds.
 abbrev pub cases : Numbers → List Answer
 cases n =

@@ -6,15 +6,15 @@ mod sheet;
 mod table;
 
 ghost use Rattle.std.specs.Prelude.{◌≡◌};
-ghost use Rattle.answer.specs.Numbers.{numbers_of, code_first, case_of};
+ghost use Rattle.answer.specs.Numbers.{four, numbers_of, case_of};
 
-pub use sheet::{SHEET_LENGTH, read_sheet, write_sheet};
+pub use sheet::{BODY_AT, BODY_LENGTH, SHEET_LENGTH, read_sheet, write_sheet};
 
 // The most events that a list may have.
 pub const EVENT_LIMIT: u32 = 1024;
 
 // A case for each code of the table, 0 to 12, with just the numbers that the table names.
-#[derive(Clone, Copy)]
+#[derive(Clone, Copy, PartialEq, Eq)]
 pub enum Answer {
     NoVerdict,
     Accepted { events: u32, peak: u32 },
@@ -32,7 +32,7 @@ pub enum Answer {
 }
 
 // An answer as document 01 writes it. A number that the table does not name is 0.
-#[derive(Clone, Copy)]
+#[derive(Clone, Copy, PartialEq, Eq)]
 pub struct Numbers {
     pub code: u32,
     pub event: u32,
@@ -41,71 +41,68 @@ pub struct Numbers {
 }
 
 impl Answer {
+    // No `From`, which is no plainer: callers read `answer.numbers()`.
     pub fn numbers(self) -> Numbers
         ensures { result ≡ numbers_of self }
     {
-        let numbers = self.code_first();
-        Numbers {
-            code: numbers[0],
-            event: numbers[1],
-            partner: numbers[2],
-            peak: numbers[3],
-        }
-    }
-
-    // Code, event, partner and peak.
-    fn code_first(self) -> [u32; 4]
-        ensures { result ≡ code_first self }
-    {
         match self {
-            Answer::NoVerdict => [0, 0, 0, 0],
-            Answer::Accepted { events, peak } => [1, events, 0, peak],
-            Answer::WrongShape => [2, 0, 0, 0],
-            Answer::TooManyEvents => [3, 0, 0, 0],
-            Answer::WrongMemoryLength => [4, 0, 0, 0],
-            Answer::UnknownKind { event } => [5, event, 0, 0],
-            Answer::WrongBodyLength { event } => [6, event, 0, 0],
-            Answer::FieldNotAllowed { event } => [7, event, 0, 0],
-            Answer::Misaligned { event } => [8, event, 0, 0],
-            Answer::OutOfRange { event } => [9, event, 0, 0],
-            Answer::Clash { event, partner } => [10, event, partner, 0],
-            Answer::NoRoom { event } => [11, event, 0, 0],
-            Answer::NotWritten => [12, 0, 0, 0],
+            Answer::NoVerdict => Numbers::new(0, 0, 0, 0),
+            Answer::Accepted { events, peak } => Numbers::new(1, events, 0, peak),
+            Answer::WrongShape => Numbers::new(2, 0, 0, 0),
+            Answer::TooManyEvents => Numbers::new(3, 0, 0, 0),
+            Answer::WrongMemoryLength => Numbers::new(4, 0, 0, 0),
+            Answer::UnknownKind { event } => Numbers::new(5, event, 0, 0),
+            Answer::WrongBodyLength { event } => Numbers::new(6, event, 0, 0),
+            Answer::FieldNotAllowed { event } => Numbers::new(7, event, 0, 0),
+            Answer::Misaligned { event } => Numbers::new(8, event, 0, 0),
+            Answer::OutOfRange { event } => Numbers::new(9, event, 0, 0),
+            Answer::Clash { event, partner } => Numbers::new(10, event, partner, 0),
+            Answer::NoRoom { event } => Numbers::new(11, event, 0, 0),
+            Answer::NotWritten => Numbers::new(12, 0, 0, 0),
         }
     }
 }
 
 impl Numbers {
-    // The case of this code, with those of the numbers that it holds; no verdict for a code past the table.
+    fn new(code: u32, event: u32, partner: u32, peak: u32) -> Numbers
+        ensures { result ≡ four code event partner peak }
+    {
+        Numbers {
+            code,
+            event,
+            partner,
+            peak,
+        }
+    }
+
+    // The case of this code, with those of the numbers that it holds; no verdict for a code past the table. No `From`: that
+    // would be every crate's, and outside an answer comes from the judge or off a sheet.
     pub(crate) fn answer(self) -> Answer
         ensures { result ≡ case_of self }
     {
-        let event = self.event;
-        let partner = self.partner;
-        let peak = self.peak;
-        let cases = [
-            Answer::NoVerdict,
-            Answer::Accepted {
+        let Numbers {
+            code,
+            event,
+            partner,
+            peak,
+        } = self;
+        match code {
+            1 => Answer::Accepted {
                 events: event,
                 peak,
             },
-            Answer::WrongShape,
-            Answer::TooManyEvents,
-            Answer::WrongMemoryLength,
-            Answer::UnknownKind { event },
-            Answer::WrongBodyLength { event },
-            Answer::FieldNotAllowed { event },
-            Answer::Misaligned { event },
-            Answer::OutOfRange { event },
-            Answer::Clash { event, partner },
-            Answer::NoRoom { event },
-            Answer::NotWritten,
-        ];
-        let code = self.code as usize;
-        if code < cases.len() {
-            cases[code]
-        } else {
-            Answer::NoVerdict
+            2 => Answer::WrongShape,
+            3 => Answer::TooManyEvents,
+            4 => Answer::WrongMemoryLength,
+            5 => Answer::UnknownKind { event },
+            6 => Answer::WrongBodyLength { event },
+            7 => Answer::FieldNotAllowed { event },
+            8 => Answer::Misaligned { event },
+            9 => Answer::OutOfRange { event },
+            10 => Answer::Clash { event, partner },
+            11 => Answer::NoRoom { event },
+            12 => Answer::NotWritten,
+            _ => Answer::NoVerdict,
         }
     }
 }

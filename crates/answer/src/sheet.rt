@@ -3,17 +3,17 @@ ghost use Rattle.std.specs.Prelude.{◌≡◌, length};
 ghost use Rattle.answer.specs.Sheet.{numbers_at, laid_out, read_of, write_answer, write_leaves};
 
 use crate::{Answer, Numbers};
-use little_endian::two_at;
+use little_endian::{number_at, put};
 
 pub const SHEET_LENGTH: usize = 12;
 
 // The sheet's own table: where its body starts ..
-const BODY_AT: u32 = 4;
+pub const BODY_AT: usize = 4;
 
 // .. and how long that is.
-const BODY_LENGTH: u32 = 8;
+pub const BODY_LENGTH: usize = 8;
 
-// The answer on a sheet; no verdict where the bytes are no sheet.
+// The answer on a sheet; no verdict, and not `None`, where the bytes are no sheet (document 01; theorem OtherLengths).
 pub fn read_sheet(sheet: &[u8]) -> Answer
     ensures { result ≡ read_of sheet.now }
 {
@@ -21,7 +21,9 @@ pub fn read_sheet(sheet: &[u8]) -> Answer
         return Answer::NoVerdict;
     }
     let numbers = numbers_at(sheet);
-    if (two_at(sheet, 0) == BODY_AT) & (two_at(sheet, 2) == BODY_LENGTH) & numbers.fit() {
+    let body_at = usize::from(number_at::<u16>(sheet, 0));
+    let body_length = usize::from(number_at::<u16>(sheet, 2));
+    if (body_at == BODY_AT) & (body_length == BODY_LENGTH) & numbers.fit() {
         numbers.answer()
     } else {
         Answer::NoVerdict
@@ -29,7 +31,7 @@ pub fn read_sheet(sheet: &[u8]) -> Answer
 }
 
 // Writes an answer's sheet to the start of what is lent. Too little lent, or an answer that the reader would not give,
-// and nothing is written.
+// and nothing is written. What it says is an answer and no `Result` by document 01 (theorem WritesWhatIsGiven).
 pub fn write_sheet(answer: Answer, out: &mut [u8]) -> Answer
     ensures value { result ≡ write_answer answer out.old }
     ensures out_after { out.new ≡ write_leaves answer out.old }
@@ -48,20 +50,14 @@ pub fn write_sheet(answer: Answer, out: &mut [u8]) -> Answer
 fn laid_out(numbers: Numbers) -> [u8; SHEET_LENGTH]
     ensures { result ≡ laid_out numbers }
 {
-    [
-        BODY_AT as u8,
-        0,
-        BODY_LENGTH as u8,
-        0,
-        (numbers.event % 256) as u8,
-        (numbers.event / 256 % 256) as u8,
-        (numbers.partner % 256) as u8,
-        (numbers.partner / 256 % 256) as u8,
-        (numbers.peak % 256) as u8,
-        (numbers.peak / 256 % 256) as u8,
-        (numbers.code % 256) as u8,
-        (numbers.code / 256 % 256) as u8,
-    ]
+    let mut sheet = [0; SHEET_LENGTH];
+    put(&mut sheet, 0, 2, BODY_AT as u64);
+    put(&mut sheet, 2, 2, BODY_LENGTH as u64);
+    put(&mut sheet, 4, 2, u64::from(numbers.event));
+    put(&mut sheet, 6, 2, u64::from(numbers.partner));
+    put(&mut sheet, 8, 2, u64::from(numbers.peak));
+    put(&mut sheet, 10, 2, u64::from(numbers.code));
+    sheet
 }
 
 fn numbers_at(sheet: &[u8]) -> Numbers
@@ -69,9 +65,9 @@ fn numbers_at(sheet: &[u8]) -> Numbers
     ensures { result ≡ numbers_at sheet.now }
 {
     Numbers {
-        event: two_at(sheet, 4),
-        partner: two_at(sheet, 6),
-        peak: two_at(sheet, 8),
-        code: two_at(sheet, 10),
+        event: u32::from(number_at::<u16>(sheet, 4)),
+        partner: u32::from(number_at::<u16>(sheet, 6)),
+        peak: u32::from(number_at::<u16>(sheet, 8)),
+        code: u32::from(number_at::<u16>(sheet, 10)),
     }
 }

@@ -1,6 +1,6 @@
 // Document 01's table: which numbers a code names, and their bounds.
 ghost use Rattle.std.specs.Prelude.{◌≡◌};
-ghost use Rattle.answer.specs.Table.{named_by, fit_named, fit};
+ghost use Rattle.answer.specs.Table.{named_by, fit};
 
 use crate::{EVENT_LIMIT, Numbers};
 
@@ -17,51 +17,38 @@ pub(crate) enum Named {
     EventAndPartner,
 }
 
-// What each code names, from code 0 on.
-const ROWS: [Named; 12] = [
-    Named::Unread,
-    Named::CountAndPeak,
-    Named::Nothing,
-    Named::Nothing,
-    Named::Nothing,
-    Named::Event,
-    Named::Event,
-    Named::Event,
-    Named::Event,
-    Named::Event,
-    Named::EventAndPartner,
-    Named::Count,
-];
-
 fn named_by(code: u32) -> Named
     ensures { result ≡ named_by code }
 {
-    let code = code as usize;
-    if code < ROWS.len() {
-        ROWS[code]
-    } else {
-        Named::Unread
-    }
-}
-
-fn fit_named(named: Named, event: u32, partner: u32, peak: u32) -> bool
-    ensures { result ≡ fit_named named event partner peak }
-{
-    match named {
-        Named::Unread => false,
-        Named::Nothing => (event == 0) & (partner == 0) & (peak == 0),
-        Named::Count => (event <= EVENT_LIMIT) & (partner == 0) & (peak == 0),
-        Named::CountAndPeak => (event <= EVENT_LIMIT) & (partner == 0) & (peak <= event),
-        Named::Event => (event < EVENT_LIMIT) & (partner == 0) & (peak == 0),
-        Named::EventAndPartner => (event < EVENT_LIMIT) & (partner < event) & (peak == 0),
+    match code {
+        1 => Named::CountAndPeak,
+        2..=4 => Named::Nothing,
+        5..=9 => Named::Event,
+        10 => Named::EventAndPartner,
+        11 => Named::Count,
+        _ => Named::Unread,
     }
 }
 
 impl Numbers {
     // Whether a sheet can hold these numbers.
+    #[tactic(auto, unfolding(crate::specs::Table::fit, crate::specs::Table::fit_named))]
     pub fn fit(self) -> bool
         ensures { result ≡ fit self }
     {
-        fit_named(named_by(self.code), self.event, self.partner, self.peak)
+        let Numbers {
+            code,
+            event,
+            partner,
+            peak,
+        } = self;
+        match named_by(code) {
+            Named::Unread => false,
+            Named::Nothing => (event == 0) & (partner == 0) & (peak == 0),
+            Named::Count => (event <= EVENT_LIMIT) & (partner == 0) & (peak == 0),
+            Named::CountAndPeak => (event <= EVENT_LIMIT) & (partner == 0) & (peak <= event),
+            Named::Event => (event < EVENT_LIMIT) & (partner == 0) & (peak == 0),
+            Named::EventAndPartner => (event < EVENT_LIMIT) & (partner < event) & (peak == 0),
+        }
     }
 }

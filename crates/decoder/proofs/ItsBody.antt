@@ -14,7 +14,7 @@ use Rattle.event.specs.declared.Cache.{Cache}
 use Rattle.event.specs.declared.Cache.TheVariants.{Ca, Cg}
 use Rattle.event.specs.declared.Event.{Event}
 use Rattle.event.specs.declared.Event.TheVariants.{Load, Store, Copy, Commit, Wait, WaitAll, BulkCopy, BulkReduction, BulkCommit, BulkWait}
-use Rattle.decoder.specs.declared.Item.TheVariants.{Decoded}
+use Rattle.std.specs.Prelude.{Ok}
 use Rattle.event.specs.declared.Mode.{Mode}
 use Rattle.event.specs.declared.Mode.TheVariants.{Plain, SourceSize, SourceIgnored}
 use Rattle.event.specs.Fields.{value_bytes, operation_number, type_number, allowed}
@@ -26,7 +26,7 @@ use Rattle.decoder.specs.Encoding.{mode_number, src_size_of, cache_number, threa
 use Rattle.decoder.proofs.Numbers.{operation-back, type_back}
 
 -- An allowed event with a meaning for each byte is what its body says.
-decoded : (e : Event) → allowed e ≡ true → checked true e ≡ Decoded e
+decoded : (e : Event) → allowed e ≡ true → checked true e ≡ Ok e
 unfolding checked
 decoded e h = rw h
 
@@ -70,7 +70,7 @@ cache_meant : (cache : Cache) → leb (cache_number cache) 1 ≡ true
 cache_meant Ca = refl
 cache_meant Cg = refl
 
-pub decodes : (e : Event) → Fits e → allowed e ≡ true → decode_of (kind_of e) (body_of e) ≡ Decoded e
+pub decodes : (e : Event) → Fits e → allowed e ≡ true → decode_of (kind_of e) (body_of e) ≡ Ok e
 unfolding decode_of of_length body_of bytes_of
 decodes (Load address size) fits h =
     rw (thread_meant_lem address size [], address_back address size [] fits) (decoded (Load address size) h)

@@ -16,7 +16,8 @@ use Rattle.little_endian.proofs.Tests.{both, all_three, all-four}
 use Rattle.event.specs.declared.ElementType.TheVariants.{B32}
 use Rattle.event.specs.declared.Event.{Event}
 use Rattle.event.specs.declared.Event.TheVariants.{Load, Store, Copy, Commit, Wait, WaitAll, BulkCopy, BulkReduction, BulkCommit, BulkWait}
-use Rattle.decoder.specs.declared.Item.TheVariants.{Decoded}
+use Rattle.std.specs.Prelude.{Ok}
+use Rattle.decoder.specs.Item.{Item}
 use Rattle.event.specs.declared.Operation.TheVariants.{And}
 use Rattle.event.specs.Fields.{operation_number, type_number, allowed}
 use Rattle.event.specs.Addresses.{global, shared, offset_of}
@@ -30,16 +31,16 @@ abbrev Said : ℕ → List ℕ → Event → Type 0
 Said kind body e = (kind_of e ≡ kind) × (body_of e ≡ body) × (allowed e ≡ true) × Fits e
 
 abbrev Sound : Row → Type 0
-Sound r = (body : List ℕ) (e : Event) → Bytes body → length body ≡ r.body_length → r.says body ≡ Decoded e → Said r.kind body e
+Sound r = (body : List ℕ) (e : Event) → Bytes body → length body ≡ r.body_length → r.says body ≡ Ok e → Said r.kind body e
 
 -- The one event that an item holds.
-event_of : (a b : Event) → Decoded a ≡ Decoded b → a ≡ b
+event_of : (a b : Event) → ◌≡◌ {A = Item} (Ok a) (Ok b) → a ≡ b
 event_of a b h = cc
 
-said : (kind : ℕ) (body : List ℕ) (a e : Event) → Decoded a ≡ Decoded e → Said kind body a → Said kind body e
+said : (kind : ℕ) (body : List ℕ) (a e : Event) → ◌≡◌ {A = Item} (Ok a) (Ok e) → Said kind body a → Said kind body e
 said kind body a e h s = subst (λ (x : Event). Said kind body x) (event_of a e h) s
 
-checked-said : (kind : ℕ) (body : List ℕ) (meant : Bool) (a e : Event) → checked meant a ≡ Decoded e
+checked-said : (kind : ℕ) (body : List ℕ) (meant : Bool) (a e : Event) → checked meant a ≡ Ok e
     → (meant ≡ true → allowed a ≡ true → Said kind body a) → Said kind body e
 unfolding checked
 checked-said kind body meant a e h s = go (meant && allowed a) refl
@@ -111,7 +112,7 @@ thread-said body bytes h meant =
     rw (space_in body parts.0, offset_in body, back 4 body 4 bytes (omega arith))
     (sym (whole ∙ (λ j. byte_at body 0 ∷ byte_at body 1 ∷ third j ∷ fourth j ∷ drop 4 body)))
 
-load_sound : (body : List ℕ) (e : Event) → Bytes body → length body ≡ 8 → load_in body ≡ Decoded e → Said 1 body e
+load_sound : (body : List ℕ) (e : Event) → Bytes body → length body ≡ 8 → load_in body ≡ Ok e → Said 1 body e
 unfolding body_of
 load_sound body e bytes n h =
     checked-said 1 body (thread_meant body) (Load (address_in body) (byte_at body 1)) e h
@@ -120,7 +121,7 @@ load_sound body e bytes n h =
     let fits : offset_of (address_in body) < 256 ^ 4 = rw (offset_in body) (bounded 4 body 4 bytes) in
     (refl, closed 8 (thread (address_in body) (byte_at body 1)) body n whole, ok, fits))
 
-store_sound : (body : List ℕ) (e : Event) → Bytes body → length body ≡ 24 → store_in body ≡ Decoded e → Said 2 body e
+store_sound : (body : List ℕ) (e : Event) → Bytes body → length body ≡ 24 → store_in body ≡ Ok e → Said 2 body e
 unfolding body_of
 store_sound body e bytes n h =
     checked-said 2 body (thread_meant body)
@@ -150,7 +151,7 @@ cache_said zero h = refl
 cache_said (suc zero) h = refl
 cache_said (suc (suc cache)) h = absurd (omega (arith, leb-true (suc (suc cache)) 1 h))
 
-copy_sound : (body : List ℕ) (e : Event) → Bytes body → length body ≡ 16 → copy_in body ≡ Decoded e → Said 16 body e
+copy_sound : (body : List ℕ) (e : Event) → Bytes body → length body ≡ 16 → copy_in body ≡ Ok e → Said 16 body e
 unfolding body_of
 copy_sound body e bytes n h =
     checked-said 16 body (copy_meant body)
@@ -187,7 +188,7 @@ type_said (suc zero) h = refl
 type_said (suc (suc zero)) h = refl
 type_said (suc (suc (suc n))) h = absurd (omega (arith, leb-true (suc (suc (suc n))) 2 h))
 
-reduction_sound : (body : List ℕ) (e : Event) → Bytes body → length body ≡ 16 → bulk_reduction_in body ≡ Decoded e → Said 33 body e
+reduction_sound : (body : List ℕ) (e : Event) → Bytes body → length body ≡ 16 → bulk_reduction_in body ≡ Ok e → Said 33 body e
 unfolding body_of
 reduction_sound body e bytes n h =
     checked-said 33 body (reduction_meant body)
@@ -208,7 +209,7 @@ reduction_sound body e bytes n h =
       (bounded 4 body 0 bytes, bounded 4 body 4 bytes, bounded 4 body 8 bytes),
     ))
 
-bulk_copy_sound : (body : List ℕ) (e : Event) → Bytes body → length body ≡ 12 → bulk_copy_in body ≡ Decoded e → Said 32 body e
+bulk_copy_sound : (body : List ℕ) (e : Event) → Bytes body → length body ≡ 12 → bulk_copy_in body ≡ Ok e → Said 32 body e
 unfolding body_of
 bulk_copy_sound body e bytes n h =
     checked-said 32 body true (BulkCopy (global (number_at 4 body 0)) (shared (number_at 4 body 4)) (number_at 4 body 8)) e h
@@ -220,12 +221,12 @@ bulk_copy_sound body e bytes n h =
 number-said : (body : List ℕ) → Bytes body → length body ≡ 4 → bytes_of 4 (number_at 4 body 0) ≡ body
 number-said body bytes n = closed 4 (bytes_of 4 (number_at 4 body 0)) body n (back 4 body 0 bytes (omega arith))
 
-wait_sound : (body : List ℕ) (e : Event) → Bytes body → length body ≡ 4 → wait_in body ≡ Decoded e → Said 18 body e
+wait_sound : (body : List ℕ) (e : Event) → Bytes body → length body ≡ 4 → wait_in body ≡ Ok e → Said 18 body e
 unfolding body_of allowed
 wait_sound body e bytes n h =
     said 18 body (Wait (number_at 4 body 0)) e h (refl, number-said body bytes n, refl, bounded 4 body 0 bytes)
 
-bulk_wait_sound : (body : List ℕ) (e : Event) → Bytes body → length body ≡ 4 → bulk_wait_in body ≡ Decoded e → Said 35 body e
+bulk_wait_sound : (body : List ℕ) (e : Event) → Bytes body → length body ≡ 4 → bulk_wait_in body ≡ Ok e → Said 35 body e
 unfolding body_of allowed
 bulk_wait_sound body e bytes n h =
     said 35 body (BulkWait (number_at 4 body 0)) e h (refl, number-said body bytes n, refl, bounded 4 body 0 bytes)
@@ -234,7 +235,7 @@ empty : (body : List ℕ) → length body ≡ 0 → [] ≡ body
 empty body n = sym (no_more 0 body n)
 
 empty_sound : (kind : ℕ) (a : Event) → kind_of a ≡ kind → body_of a ≡ [] → allowed a ≡ true → Fits a
-    → (body : List ℕ) (e : Event) → length body ≡ 0 → Decoded a ≡ Decoded e → Said kind body e
+    → (body : List ℕ) (e : Event) → length body ≡ 0 → ◌≡◌ {A = Item} (Ok a) (Ok e) → Said kind body e
 empty_sound kind a k no_bytes ok fits body e n h = said kind body a e h (k, no_bytes ∙ empty body n, ok, fits)
 
 -- A table all of whose rows are sound decodes only bodies of events.
@@ -253,7 +254,7 @@ all_sound =
     (and bulk_wait_sound none)))))))))
 
 of_length_lem : (r : Row) → Sound r → (body : List ℕ) (e : Event) → Bytes body
-    → of_length r.body_length r.says body ≡ Decoded e → Said r.kind body e
+    → of_length r.body_length r.says body ≡ Ok e → Said r.kind body e
 unfolding of_length
 of_length_lem r sound body e bytes h = go (eqb (length body) r.body_length) refl
   where
@@ -262,14 +263,14 @@ of_length_lem r sound body e bytes h = go (eqb (length body) r.body_length) refl
     go false t = absurd (false≢true (ap is_decoded (rw t at h)))
 
 of_rows : (rows : List Row) → Every Sound rows → (kind : ℕ) (body : List ℕ) (e : Event) → Bytes body
-    → decode_by rows kind body ≡ Decoded e → Said kind body e
+    → decode_by rows kind body ≡ Ok e → Said kind body e
 of_rows [] none kind body e bytes h = absurd (false≢true (ap is_decoded h))
 of_rows (r ∷ rows) (and sound others) kind body e bytes h = go (eqb kind r.kind) refl (of_rows rows others kind body e bytes)
   where
-    go : (t : Bool) → eqb kind r.kind ≡ t → (decode_by rows kind body ≡ Decoded e → Said kind body e) → Said kind body e
+    go : (t : Bool) → eqb kind r.kind ≡ t → (decode_by rows kind body ≡ Ok e → Said kind body e) → Said kind body e
     go true t rest = rw (eqb-true kind r.kind t) (of_length_lem r sound body e bytes (rw t at h))
     go false t rest = rest (rw t at h)
 
-pub one_body_lem : (kind : ℕ) (body : List ℕ) (e : Event) → Bytes body → decode_of kind body ≡ Decoded e → Said kind body e
+pub one_body_lem : (kind : ℕ) (body : List ℕ) (e : Event) → Bytes body → decode_of kind body ≡ Ok e → Said kind body e
 unfolding decode_of
 one_body_lem kind body e bytes h = of_rows kinds_of_01 all_sound kind body e bytes h

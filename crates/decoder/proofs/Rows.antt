@@ -7,15 +7,19 @@ use mathlib.Core.List.{List, [], ◌∷◌}
 use native.Mathlib.Omega.{arith}
 use lib.Dec.{leb, eqb, lit≤}
 use lib.ListN.{length}
-use borrow.Author.Tests.{leb-true, leb-false, eqb-true, eqb-false, le-leb, lt-leb}
+use borrow.Author.Tests.{leb-true, leb-false, eqb-true, eqb-false, le-leb, lt-leb, ne_eqb}
 use Rattle.little_endian.specs.Number.{within}
 use Rattle.event.specs.declared.Event.{Event}
-use Rattle.decoder.specs.declared.Item.{Item}
-use Rattle.decoder.specs.declared.Item.TheVariants.{Decoded, UnknownKind, WrongBodyLength, FieldNotAllowed}
+use Rattle.decoder.specs.Item.{Item}
+use Rattle.std.specs.Prelude.{Ok, Err}
+use Rattle.decoder.specs.declared.Undecoded.TheVariants.{UnknownKind, WrongBodyLength, FieldNotAllowed}
 use Rattle.event.specs.Fields.{allowed}
 use Rattle.decoder.specs.Bodies.{checked}
 use Rattle.decoder.specs.Kinds.{Row, kinds_of_01, in_ranges, of_length, decode_by, decode_of, overlong}
-use Rattle.decoder.proofs.Lengths.{wrong_length}
+
+wrong_length : (n : ℕ) (says : List ℕ → Item) (body : List ℕ) → (length body ≡ n → ⊥) → of_length n says body ≡ Err WrongBodyLength
+unfolding of_length
+wrong_length n says body h = rw (ne_eqb (length body) n h)
 
 -- What holds of every row of a table.
 pub data Every (P : Row → Type 0) : List Row → Type 0 where
@@ -78,29 +82,29 @@ outside : (kind : ℕ) → Outside 1 2 kind → Outside 16 19 kind → Outside 3
 outside kind thread non_bulk bulk =
     rw (not_within 1 2 kind thread, not_within 16 19 kind non_bulk, not_within 32 35 kind bulk)
 
-no_row : (rows : List Row) (kind : ℕ) (body : List ℕ) → has_row rows kind ≡ false → decode_by rows kind body ≡ UnknownKind
+no_row : (rows : List Row) (kind : ℕ) (body : List ℕ) → has_row rows kind ≡ false → decode_by rows kind body ≡ Err UnknownKind
 no_row [] kind body h = refl
 no_row (r ∷ rows) kind body h = go (eqb kind r.kind) refl (no_row rows kind body)
   where
-    go : (t : Bool) → eqb kind r.kind ≡ t → (has_row rows kind ≡ false → decode_by rows kind body ≡ UnknownKind)
-        → decode_by (r ∷ rows) kind body ≡ UnknownKind
+    go : (t : Bool) → eqb kind r.kind ≡ t → (has_row rows kind ≡ false → decode_by rows kind body ≡ (Err UnknownKind))
+        → decode_by (r ∷ rows) kind body ≡ Err UnknownKind
     go true e rest = absurd (true≢false (rw e at h))
     go false e rest = rw e (rest (rw e at h))
 
-pub unknown : (kind : ℕ) (body : List ℕ) → in_ranges kind ≡ false → decode_of kind body ≡ UnknownKind
+pub unknown : (kind : ℕ) (body : List ℕ) → in_ranges kind ≡ false → decode_of kind body ≡ Err UnknownKind
 unfolding decode_of
 unknown kind body h = no_row kinds_of_01 kind body (ranges kind ∙ h)
 
 pub unknown-outside : (kind : ℕ) (body : List ℕ) → Outside 1 2 kind → Outside 16 19 kind → Outside 32 35 kind
-    → decode_of kind body ≡ UnknownKind
+    → decode_of kind body ≡ Err UnknownKind
 unknown-outside kind body thread non_bulk bulk = unknown kind body (outside kind thread non_bulk bulk)
 
 -- No row says that its kind is unknown.
 abbrev is_unknown : Item → Bool
-is_unknown (Decoded event) = false
-is_unknown UnknownKind = true
-is_unknown WrongBodyLength = false
-is_unknown FieldNotAllowed = false
+is_unknown (Ok event) = false
+is_unknown (Err UnknownKind) = true
+is_unknown (Err WrongBodyLength) = false
+is_unknown (Err FieldNotAllowed) = false
 
 abbrev Knows : Row → Type 0
 Knows r = (body : List ℕ) → is_unknown (r.says body) ≡ false
@@ -109,7 +113,7 @@ checked_knows : (meant : Bool) (e : Event) → is_unknown (checked meant e) ≡ 
 unfolding checked
 checked_knows meant e = go (meant && allowed e) refl
   where
-    go : (t : Bool) → (meant && allowed e) ≡ t → is_unknown (cond t (Decoded e) FieldNotAllowed) ≡ false
+    go : (t : Bool) → (meant && allowed e) ≡ t → is_unknown (cond t (Ok e) (Err FieldNotAllowed)) ≡ false
     go true h = refl
     go false h = refl
 
@@ -132,7 +136,7 @@ unfolding of_length
 known [] none kind body h = absurd (false≢true h)
 known (r ∷ rows) (and knows others) kind body h = go (eqb kind r.kind) refl (known rows others kind body)
   where
-    by_length : (t : Bool) → eqb (length body) r.body_length ≡ t → is_unknown (cond t (r.says body) WrongBodyLength) ≡ false
+    by_length : (t : Bool) → eqb (length body) r.body_length ≡ t → is_unknown (cond t (r.says body) (Err WrongBodyLength)) ≡ false
     by_length true e = knows body
     by_length false e = refl
 
@@ -141,7 +145,7 @@ known (r ∷ rows) (and knows others) kind body h = go (eqb kind r.kind) refl (k
     go true e rest = rw e (by_length (eqb (length body) r.body_length) refl)
     go false e rest = rw e (rest (rw e at h))
 
-pub only-unknown : (kind : ℕ) (body : List ℕ) → decode_of kind body ≡ UnknownKind → in_ranges kind ≡ false
+pub only-unknown : (kind : ℕ) (body : List ℕ) → decode_of kind body ≡ (Err UnknownKind) → in_ranges kind ≡ false
 unfolding decode_of
 only-unknown kind body h = go (in_ranges kind) refl
   where
@@ -167,16 +171,16 @@ all_short =
     (and (lit≤ tt) none)))))))))
 
 too_long : (rows : List Row) → Every Short rows → (kind : ℕ) (body : List ℕ) → 24 < length body
-    → decode_by rows kind body ≡ cond (has_row rows kind) WrongBodyLength UnknownKind
+    → decode_by rows kind body ≡ cond (has_row rows kind) (Err WrongBodyLength) (Err UnknownKind)
 too_long [] none kind body h = refl
 too_long (r ∷ rows) (and short others) kind body h = go (eqb kind r.kind) refl (too_long rows others kind body h)
   where
     go : (t : Bool) → eqb kind r.kind ≡ t
-        → decode_by rows kind body ≡ cond (has_row rows kind) WrongBodyLength UnknownKind
-        → decode_by (r ∷ rows) kind body ≡ cond (has_row (r ∷ rows) kind) WrongBodyLength UnknownKind
+        → decode_by rows kind body ≡ cond (has_row rows kind) (Err WrongBodyLength) (Err UnknownKind)
+        → decode_by (r ∷ rows) kind body ≡ cond (has_row (r ∷ rows) kind) (Err WrongBodyLength) (Err UnknownKind)
     go true e rest = rw (e, wrong_length r.body_length r.says body (λ same. omega (arith, short)))
     go false e rest = rw e rest
 
 pub long_body : (kind : ℕ) (body : List ℕ) → 24 < length body → decode_of kind body ≡ overlong kind
 unfolding decode_of overlong
-long_body kind body h = too_long kinds_of_01 all_short kind body h ∙ ap (λ (t : Bool). cond t WrongBodyLength UnknownKind) (ranges kind)
+long_body kind body h = too_long kinds_of_01 all_short kind body h ∙ ap (λ (t : Bool). cond t (Err WrongBodyLength) (Err UnknownKind)) (ranges kind)

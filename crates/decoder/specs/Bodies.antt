@@ -1,21 +1,22 @@
 -- The bodies of document 01's kinds: what the bytes of each mean.
-use Rattle.std.specs.Prelude.{ℕ, Bool, true, ◌&&◌, ◌||◌, cond, List, [], ◌∷◌, leb, eqb, get_or}
+use Rattle.std.specs.Prelude.{ℕ, Bool, true, ◌&&◌, ◌||◌, cond, List, [], ◌∷◌, leb, eqb, get_or, Ok, Err}
 use Rattle.little_endian.specs.Number.{is_zero, number_at}
 use Rattle.event.specs.declared.Address.{Address}
 use Rattle.event.specs.declared.Address.TheVariants.{Global, Shared}
 use Rattle.event.specs.declared.Cache.{Cache}
 use Rattle.event.specs.declared.Cache.TheVariants.{Ca, Cg}
 use Rattle.event.specs.declared.ElementType.{ElementType}
-use Rattle.event.specs.declared.ElementType.TheVariants.{B32, U32, S32}
+use Rattle.event.specs.declared.ElementType.TheVariants.{B32}
 use Rattle.event.specs.declared.Event.{Event}
 use Rattle.event.specs.declared.Event.TheVariants.{Load, Store, Copy, Wait, BulkCopy, BulkReduction, BulkWait}
-use Rattle.decoder.specs.declared.Item.{Item}
-use Rattle.decoder.specs.declared.Item.TheVariants.{Decoded, FieldNotAllowed}
+use Rattle.decoder.specs.Item.{Item}
+use Rattle.decoder.specs.declared.Undecoded.TheVariants.{FieldNotAllowed}
 use Rattle.event.specs.declared.Mode.{Mode}
 use Rattle.event.specs.declared.Mode.TheVariants.{Plain, SourceSize, SourceIgnored}
 use Rattle.event.specs.declared.Operation.{Operation}
-use Rattle.event.specs.declared.Operation.TheVariants.{And, Or, Xor, Add, Min, Max}
+use Rattle.event.specs.declared.Operation.TheVariants.{And}
 use Rattle.event.specs.Fields.{allowed}
+use Rattle.event.specs.Meaning as meaning
 use Rattle.event.specs.Addresses.{global, shared}
 
 abbrev pub byte_at : List ℕ → ℕ → ℕ
@@ -23,7 +24,7 @@ byte_at body i = get_or body i 0
 
 -- The event of a body whose every byte has a meaning, where its fields are allowed.
 unfoldable pub checked : Bool → Event → Item
-checked meant event = cond (meant && allowed event) (Decoded event) FieldNotAllowed
+checked meant event = cond (meant && allowed event) (Ok event) (Err FieldNotAllowed)
 
 -- Load, 8 bytes: space (0 global, 1 shared), size, two zeros, address (4).
 abbrev pub address_in : List ℕ → Address
@@ -70,10 +71,10 @@ bulk_copy_in body =
 
 -- Bulk reduction, 16: dst, src, size, operation, type, two zeros. A number past either list has no meaning (`reduction_meant`).
 abbrev pub operations : List Operation
-operations = And ∷ Or ∷ Xor ∷ Add ∷ Min ∷ Max ∷ []
+operations = meaning.operations
 
 abbrev pub types : List ElementType
-types = B32 ∷ U32 ∷ S32 ∷ []
+types = meaning.types
 
 abbrev pub reduction_meant : List ℕ → Bool
 reduction_meant body = leb (byte_at body 12) 5 && leb (byte_at body 13) 2 && is_zero (byte_at body 14) && is_zero (byte_at body 15)
@@ -87,7 +88,7 @@ bulk_reduction_in body =
 
 -- Wait and bulk wait, 4: N, any 32-bit number.
 abbrev pub wait_in : List ℕ → Item
-wait_in body = Decoded (Wait (number_at 4 body 0))
+wait_in body = Ok (Wait (number_at 4 body 0))
 
 abbrev pub bulk_wait_in : List ℕ → Item
-bulk_wait_in body = Decoded (BulkWait (number_at 4 body 0))
+bulk_wait_in body = Ok (BulkWait (number_at 4 body 0))

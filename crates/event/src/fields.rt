@@ -1,47 +1,42 @@
 // Which fields document 01 allows an event.
 ghost use Rattle.std.specs.Prelude.{◌≡◌, drop};
 ghost use Rattle.little_endian.specs.Number.{bytes_of};
-ghost use Rattle.event.specs.Fields.{is_thread_size, is_copy_size, is_bulk_size, all_zero, is_value, is_mode, is_cache, operation_number, type_number, is_pair, allowed};
+ghost use Rattle.event.specs.Fields.{is_thread_size, is_copy_size, is_bulk_size, all_zero, is_value, is_mode, is_cache, is_pair, allowed};
 
 use crate::{Cache, ElementType, Event, Mode, Operation};
 
 impl Event {
     // A host may build an event by hand: whether its fields are allowed.
+    #[tactic(auto, unfolding(crate::specs::Fields::allowed))]
     pub fn allowed(self) -> bool
         ensures { result ≡ allowed self }
     {
         match self {
-            Event::Load { address: _, size } => is_thread_size(size),
+            Event::Load { size, .. } => is_thread_size(size),
             Event::Store {
-                address: _,
                 size,
                 low,
                 high,
+                ..
             } => is_thread_size(size) & is_value(size, low, high),
             Event::Copy {
-                dst: _,
-                src: _,
                 cp_size,
                 mode,
                 cache,
+                ..
             } => is_copy_size(cp_size) & is_mode(mode, cp_size) & is_cache(cache, cp_size),
-            Event::Commit => true,
-            Event::Wait(_) => true,
-            Event::WaitAll => true,
-            Event::BulkCopy {
-                dst: _,
-                src: _,
-                size,
-            } => is_bulk_size(size),
+            Event::BulkCopy { size, .. } => is_bulk_size(size),
             Event::BulkReduction {
-                dst: _,
-                src: _,
                 size,
                 operation,
                 element,
+                ..
             } => is_bulk_size(size) & is_pair(operation, element),
-            Event::BulkCommit => true,
-            Event::BulkWait(_) => true,
+            Event::Commit
+            | Event::Wait(_)
+            | Event::WaitAll
+            | Event::BulkCommit
+            | Event::BulkWait(_) => true,
         }
     }
 }
@@ -49,13 +44,13 @@ impl Event {
 fn is_thread_size(size: u32) -> bool
     ensures { result ≡ is_thread_size size }
 {
-    (size == 1) | (size == 2) | (size == 4) | (size == 8) | (size == 16)
+    matches!(size, 1 | 2 | 4 | 8 | 16)
 }
 
 fn is_copy_size(size: u32) -> bool
     ensures { result ≡ is_copy_size size }
 {
-    (size == 4) | (size == 8) | (size == 16)
+    matches!(size, 4 | 8 | 16)
 }
 
 fn is_bulk_size(size: u32) -> bool
@@ -108,31 +103,8 @@ fn is_cache(cache: Cache, size: u32) -> bool
 fn is_pair(operation: Operation, element: ElementType) -> bool
     ensures { result ≡ is_pair operation element }
 {
-    let operation = operation_number(operation);
-    let element = type_number(element);
-    (operation <= 2) & (element == 0)
-        | (3 <= operation) & (operation <= 5) & (1 <= element) & (element <= 2)
-}
-
-pub fn operation_number(operation: Operation) -> u32
-    ensures { result ≡ operation_number operation }
-{
     match operation {
-        Operation::And => 0,
-        Operation::Or => 1,
-        Operation::Xor => 2,
-        Operation::Add => 3,
-        Operation::Min => 4,
-        Operation::Max => 5,
-    }
-}
-
-pub fn type_number(element: ElementType) -> u32
-    ensures { result ≡ type_number element }
-{
-    match element {
-        ElementType::B32 => 0,
-        ElementType::U32 => 1,
-        ElementType::S32 => 2,
+        Operation::And | Operation::Or | Operation::Xor => element == ElementType::B32,
+        Operation::Add | Operation::Min | Operation::Max => element != ElementType::B32,
     }
 }

@@ -4,9 +4,10 @@
 
 mod copies;
 mod fields;
+mod meaning;
 
 pub use copies::bytes_read;
-pub use fields::{operation_number, type_number};
+pub use meaning::NoMeaning;
 
 // An address counts the bytes of one memory from 0. The two are numbers of different kinds: neither stands for the other.
 #[derive(Clone, Copy)]
@@ -23,7 +24,7 @@ pub enum Address {
 }
 
 // What a copy reads of its source.
-#[derive(Clone, Copy)]
+#[derive(Clone, Copy, PartialEq, Eq)]
 pub enum Mode {
     // cp-size bytes
     Plain,
@@ -33,13 +34,13 @@ pub enum Mode {
     SourceIgnored,
 }
 
-#[derive(Clone, Copy)]
+#[derive(Clone, Copy, PartialEq, Eq)]
 pub enum Cache {
     Ca,
     Cg,
 }
 
-#[derive(Clone, Copy)]
+#[derive(Clone, Copy, PartialEq, Eq)]
 pub enum Operation {
     And,
     Or,
@@ -49,14 +50,15 @@ pub enum Operation {
     Max,
 }
 
-#[derive(Clone, Copy)]
+#[derive(Clone, Copy, PartialEq, Eq)]
 pub enum ElementType {
     B32,
     U32,
     S32,
 }
 
-// One recorded event, with all that its body says.
+// One recorded event, with all that its body says. Its fields stand as they are: the theorems on bodies (`DecodesItsBody`,
+// `OneBody`) speak of them, and document 01 names two enums for a reduction's operation and type.
 #[derive(Clone, Copy)]
 pub enum Event {
     Load {

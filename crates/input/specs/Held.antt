@@ -1,7 +1,6 @@
 -- What is kept of an input. No contract says which bytes a file or a terminal gives; a reader over memory may say its own.
 use Rattle.std.specs.Prelude.{ℕ, ◌+◌, ◌-◌, min, ◌≡◌, List, ◌++◌, length, take, drop, Option, Some, None}
-use Rattle.input.specs.declared.Input.{Input}
-use Rattle.input.specs.declared.Input.TheVariants.{Whole, Unread}
+use Rattle.input.specs.declared.Whole.{Whole}
 
 -- What is lent, with the bytes of an input put in from the start on, as many as there is room for.
 unfoldable pub beginning_with : List ℕ → List ℕ → List ℕ
@@ -12,15 +11,13 @@ abbrev pub Begins : ℕ → List ℕ → List ℕ → Type 0
 Begins total before after = (input : List ℕ) × (length input ≡ total) × (after ≡ beginning_with input before)
 
 -- It is held whole, or as much of it as was lent. Of an input that was not read to its end nothing is said.
-abbrev pub Held : Input → List ℕ → List ℕ → Type 0
-Held (Whole held total) before after = (held ≡ min total (length after)) × Begins total before after
-Held (Unread error) before after = Unit {0}
+abbrev pub Held : Whole → List ℕ → List ℕ → Type 0
+Held whole before after = (whole.held ≡ min whole.total (length after)) × Begins whole.total before after
 
 -- Where the reader says which bytes it has left, the input is just these.
-abbrev pub HeldOf : Input → Option (List ℕ) → List ℕ → List ℕ → Type 0
-HeldOf (Whole held total) (Some input) before after = (total ≡ length input) × (after ≡ beginning_with input before)
-HeldOf (Whole held total) None before after = Unit {0}
-HeldOf (Unread error) known before after = Unit {0}
+abbrev pub HeldOf : Whole → Option (List ℕ) → List ℕ → List ℕ → Type 0
+HeldOf whole (Some input) before after = (whole.total ≡ length input) × (after ≡ beginning_with input before)
+HeldOf whole None before after = Unit {0}
 
 -- ---- For the inner function `keep`; no promise to a caller cites it.
 

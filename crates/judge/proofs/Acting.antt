@@ -2,16 +2,14 @@
 -- Assumes nothing.
 use Prim.Native.Nat.{ℕ, ◌+◌, ◌*◌, ◌≤◌}
 use native.Mathlib.Omega.{arith}
-use mathlib.Core.Path.{◌≡◌, refl, sym, ap, ◌∙◌}
+use mathlib.Core.Path.{◌≡◌, sym, ap, ◌∙◌}
 use mathlib.Core.List.{List, [], ◌∷◌, ◌++◌}
 use lib.ListN.{length, length-append}
 use lib.Seq.{sets}
+use Rattle.std.specs.Prelude.{Option, None, Some}
 use Rattle.answer.specs.declared.Answer.TheVariants.{Clash}
-use Rattle.operations.specs.declared.Partner.{Partner}
-use Rattle.operations.specs.declared.Partner.TheVariants.{Event, Nobody}
 use Rattle.operations.specs.declared.Record.{Record}
 use Rattle.operations.specs.Table.{range_words, mark_words, records, placed}
-use Rattle.operations.specs.Clash.{first_clash}
 use Rattle.operations.specs.Waiting.{kept}
 use Rattle.operations.proofs.Records.{put_next, records-placed, four-ranges, four-marks}
 use Rattle.parts.specs.declared.GroupsMade.{GroupsMade}
@@ -19,28 +17,13 @@ use Rattle.parts.specs.declared.Part.{Part}
 use Rattle.parts.specs.declared.Part.TheVariants as part
 use Rattle.judge.specs.declared.State.{State}
 use Rattle.judge.specs.AsLeft.{place_length}
-use Rattle.judge.specs.Step.{After, leaving, refused_by, passed_to, or_clash, left_by}
-
--- ---- a clash, or none
-module _ (q : Partner) (s : State) (ranges marks : List ℕ) (next : After) where
-  pub left-clashed : (i : ℕ) (s' : State) → q ≡ Event i → s' ≡ refused_by s (Clash s.events i)
-      → leaving s' ranges marks ≡ or_clash q s ranges marks next
-  left-clashed i s' c e = ap (λ t. leaving t ranges marks) e ∙ ap (λ p. or_clash p s ranges marks next) (sym c)
-
-  pub left_passed : (after : After) → q ≡ Nobody → after ≡ next → after ≡ or_clash q s ranges marks next
-  left_passed after c e = e ∙ ap (λ p. or_clash p s ranges marks next) (sym c)
+use Rattle.judge.specs.Step.{After, leaving, refused_by, passed_to, clash_in, or_clash, passed_by, left_by}
 
 -- ---- the places hold these records, one for each open operation
 pub record Holds (rs : List Record) (s : State) (ranges marks : List ℕ) : Type 0 where
   pub all : s.unclosed ≡ length rs
   pub in_ranges_lem : ranges ≡ placed range_words rs ranges
   pub in_marks : marks ≡ placed mark_words rs marks
-
-abbrev pub clash_in : Part → List Record → Partner
-clash_in (part.Access r) rs = first_clash r rs
-clash_in (part.Operation r) rs = first_clash r rs
-clash_in (part.Commit made) rs = Nobody
-clash_in (part.Wait made wait) rs = Nobody
 
 abbrev pub records_after : Part → List Record → List Record
 records_after (part.Access r) rs = rs
@@ -54,9 +37,9 @@ made_after (part.Operation r) made = made
 made_after (part.Commit made') made = made'
 made_after (part.Wait made' wait) made = made'
 
-abbrev pub if_clash : {A : Type 0} → Partner → (ℕ → A) → A → A
-if_clash (Event i) clash otherwise = clash i
-if_clash Nobody clash otherwise = otherwise
+abbrev pub if_clash : {A : Type 0} → Option ℕ → (ℕ → A) → A → A
+if_clash (Some i) clash otherwise = clash i
+if_clash None clash otherwise = otherwise
 
 -- what is left then, by the records
 pub record Acted (p : Part) (rs : List Record) (s : State) (ranges marks : List ℕ) (after : After) : Type 0 where
@@ -84,12 +67,12 @@ module _ (rs : List Record) (s : State) (ranges marks : List ℕ) (h : Holds rs 
     (few : 4 * s.unclosed + 4 ≤ place_length) (long-ranges : place_length ≤ length ranges)
     (long-marks : place_length ≤ length marks) where
   -- a clash changes no word
-  clashed : (p : Part) (i : ℕ) → clash_in p rs ≡ Event i
+  clashed : (p : Part) (i : ℕ) → clash_in p rs ≡ Some i
       → Acted p rs s ranges marks (leaving (refused_by s (Clash s.events i)) ranges marks)
   clashed p i c = record { state_after = rw c; ranges_after = rw c h.in_ranges_lem; marks_after = rw c h.in_marks }
 
   -- an event that passes
-  passed : (p : Part) (n : ℕ) (ranges' marks' : List ℕ) → clash_in p rs ≡ Nobody → n ≡ length (records_after p rs)
+  passed : (p : Part) (n : ℕ) (ranges' marks' : List ℕ) → clash_in p rs ≡ None → n ≡ length (records_after p rs)
       → ranges' ≡ placed range_words (records_after p rs) ranges → marks' ≡ placed mark_words (records_after p rs) marks
       → Acted p rs s ranges marks (leaving (passed_to s n (made_after p s.made)) ranges' marks')
   passed p n ranges' marks' c count in_ranges_lem in_marks = record {
@@ -98,29 +81,26 @@ module _ (rs : List Record) (s : State) (ranges marks : List ℕ) (h : Holds rs 
     marks_after = rw c in_marks;
   }
 
-  -- with an access, the one or the other
-  by_partner : (p : Part) (q : Partner) (after : After) → clash_in p rs ≡ q → (q ≡ Nobody → Acted p rs s ranges marks after)
-      → Acted p rs s ranges marks (or_clash q s ranges marks after)
-  by_partner p (Event i) after c passes = clashed p i c
-  by_partner p Nobody after c passes = passes refl
+  -- each that clashes with none
+  passes : (p : Part) → clash_in p rs ≡ None → Acted p rs s ranges marks (passed_by p s ranges marks)
+  passes (part.Access r) c = passed (part.Access r) s.unclosed ranges marks c h.all h.in_ranges_lem h.in_marks
+  passes (part.Operation r) c =
+      passed (part.Operation r) (s.unclosed + 1) _ _ c
+      (ap (λ n. n + 1) h.all ∙ sym (length-append rs (r ∷ [])))
+      (put-held range_words four-ranges rs r s.unclosed ranges h.all h.in_ranges_lem (omega (arith, h.all)))
+      (put-held mark_words four-marks rs r s.unclosed marks h.all h.in_marks (omega (arith, h.all)))
+  passes (part.Commit made) c = passed (part.Commit made) s.unclosed ranges marks c h.all h.in_ranges_lem h.in_marks
+  passes (part.Wait made wait) c =
+      let same = held-records h in
+      passed (part.Wait made wait) (length (kept wait (records s.unclosed ranges marks))) _ _ c
+      (ap (λ l. length (kept wait l)) same)
+      (ap (λ l. placed range_words (kept wait l) ranges) same) (ap (λ l. placed mark_words (kept wait l) marks) same)
+
+  by_partner : (p : Part) (q : Option ℕ) → clash_in p rs ≡ q
+      → Acted p rs s ranges marks (or_clash q s ranges marks (passed_by p s ranges marks))
+  by_partner p (Some i) c = clashed p i c
+  by_partner p None c = passes p c
 
   -- so what an event leaves is told by the records that the places hold
   pub acted : (p : Part) → Acted p rs s ranges marks (left_by p s ranges marks)
-  acted (part.Access r) =
-      let same = ap (first_clash r) (held-records h) in
-      by_partner (part.Access r) (first_clash r (records s.unclosed ranges marks)) _ (sym same) (λ c.
-      passed (part.Access r) s.unclosed ranges marks (sym same ∙ c) h.all h.in_ranges_lem h.in_marks)
-  acted (part.Operation r) =
-      let same = ap (first_clash r) (held-records h) in
-      by_partner (part.Operation r) (first_clash r (records s.unclosed ranges marks)) _ (sym same) (λ c.
-      passed (part.Operation r) (s.unclosed + 1) _ _ (sym same ∙ c)
-      (ap (λ n. n + 1) h.all ∙ sym (length-append rs (r ∷ [])))
-      (put-held range_words four-ranges rs r s.unclosed ranges h.all h.in_ranges_lem (omega (arith, h.all)))
-      (put-held mark_words four-marks rs r s.unclosed marks h.all h.in_marks (omega (arith, h.all))))
-  acted (part.Commit made) =
-      passed (part.Commit made) s.unclosed ranges marks refl h.all h.in_ranges_lem h.in_marks
-  acted (part.Wait made wait) =
-      let same = held-records h in
-      passed (part.Wait made wait) (length (kept wait (records s.unclosed ranges marks))) _ _ refl
-      (ap (λ l. length (kept wait l)) same)
-      (ap (λ l. placed range_words (kept wait l) ranges) same) (ap (λ l. placed mark_words (kept wait l) marks) same)
+  acted p = by_partner p (clash_in p (records s.unclosed ranges marks)) (sym (ap (clash_in p) (held-records h)))

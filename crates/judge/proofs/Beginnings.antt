@@ -10,19 +10,18 @@ use Rattle.answer.specs.Codes.{IsAccepted}
 use Rattle.answer.specs.declared.Answer.{Answer}
 use Rattle.answer.specs.Table.{event_limit, fit_named, fit}
 use Rattle.event.specs.declared.Event.{Event}
-use Rattle.decoder.specs.declared.Item.{Item}
-use Rattle.decoder.specs.declared.Item.TheVariants.{Decoded}
+use Rattle.decoder.specs.Item.{Item}
+use Rattle.std.specs.Prelude.{Ok, Err}
 use Rattle.decoder.specs.Kinds.{is_decoded}
 use Rattle.trace.specs.declared.Header.{Header}
-use Rattle.trace.specs.declared.Shape.{Shape}
-use Rattle.trace.specs.declared.Shape.TheVariants.{Formed, Refused}
+use Rattle.trace.specs.File.{Shape}
 use Rattle.trace.specs.File.{shape_of, first_items, item_in, Contents, refused, recorded, contents_of, file_of}
 use Rattle.trace.specs.Beginning.{enough, held_item_in, held_contents, held_of}
 use Rattle.trace.proofs.Faults.{all_decoded, all_append, length-first, further}
 use Rattle.trace.proofs.Alike.{Following, Alike, same, up_to, one-more-same, alike}
 use Rattle.trace.proofs.Shapes.{counted}
 use Rattle.trace.proofs.Held.{held_whole_lem, shape_decided, items-there}
-use Rattle.rules.specs.Faults.{Lengths}
+use Rattle.rules.specs.declared.Lengths.{Lengths}
 use Rattle.rules.specs.Answers.{answer_of, lengths_in, answer_of_contents, answer_of_file}
 use Rattle.rules.proofs.Accepted.{accepted-items, refused-more}
 use Rattle.rules.proofs.Right.{Fits}
@@ -30,7 +29,7 @@ use Rattle.rules.proofs.Files.{of_shape, list_fits}
 use Rattle.judge.specs.Beginnings.{answer_of_beginning}
 
 -- ---- lists of items that agree up to the first that does not decode have the same answer
-all-events : (es : List Event) → all_decoded (map Decoded es) ≡ true
+all-events : (es : List Event) → all_decoded (map Ok es) ≡ true
 all-events [] = refl
 all-events (e ∷ es) = all-events es
 
@@ -76,7 +75,7 @@ module _ (lengths : Lengths) where
 
 -- ---- so the beginning of a file has the file's answer
 module _ (f : List ℕ) (k : ℕ) (long : enough event_limit ≤ k) where
-  module _ (header : Header) (e : shape_of event_limit f (length f) ≡ Formed header) where
+  module _ (header : Header) (e : shape_of event_limit f (length f) ≡ Ok header) where
     pub beginning_judged :
         answer_of (lengths_in header) (first_items (held_item_in (take k f)) header.events)
         ≡ answer_of (lengths_in header) (first_items (item_in f) header.events)
@@ -101,8 +100,8 @@ module _ (f : List ℕ) (k : ℕ) (long : enough event_limit ≤ k) where
     where
       by_shape : (s : Shape) → shape_of event_limit f (length f) ≡ s
           → answer_of_contents (held_contents (take k f) s) ≡ answer_of_contents (contents_of f s)
-      by_shape (Refused answer) e = refl
-      by_shape (Formed header) e = beginning_judged header e
+      by_shape (Err answer) e = refl
+      by_shape (Ok header) e = beginning_judged header e
 
 -- and the whole file is a beginning of itself
 pub whole-answers : (f : List ℕ) → answer_of_beginning f (length f) ≡ answer_of_file f
@@ -111,9 +110,9 @@ whole-answers f = ap answer_of_contents (held_whole_lem event_limit f)
 
 -- ---- what is told of a beginning
 module _ (f : List ℕ) (total : ℕ) where
-  pub told_shape : (s : Shape) → shape_of event_limit f total ≡ s → answer_of_beginning f total ≡ answer_of_contents (held_contents f s)
-  unfolding answer_of_beginning held_of
-  told_shape s e = ap (λ s. answer_of_contents (held_contents f s)) e
+  pub told_contents : (contents : Contents) → held_of event_limit f total ≡ contents → answer_of_beginning f total ≡ answer_of_contents contents
+  unfolding answer_of_beginning
+  told_contents contents e = ap answer_of_contents e
 
   pub told : (a : Answer) → a ≡ answer_of_beginning f total
       → ((file : List ℕ) (held : ℕ) → enough event_limit ≤ held → f ≡ take held file → total ≡ length file
@@ -134,11 +133,11 @@ unfolding held_of fit fit_named
 says f total = by_shape (shape_of event_limit f total) refl
   where
     by_shape : (s : Shape) → shape_of event_limit f total ≡ s → Says (held_contents f s)
-    by_shape (Refused answer) e =
+    by_shape (Err answer) e =
         let refuses = of_shape (λ a. ¬ IsAccepted a) (λ h. omega (arith, h)) (λ h. omega (arith, h)) (λ h. omega (arith, h)) f total in
         let fits = of_shape Fits refl refl refl f total in
         shapeless (rw e at refuses) (rw e at fits)
-    by_shape (Formed header) e =
+    by_shape (Ok header) e =
         let few : length (first_items (held_item_in f) header.events) ≤ event_limit =
         rw (length-first (held_item_in f) header.events) (counted event_limit total f header e).1 in
         listed few

@@ -6,33 +6,36 @@ use native.Mathlib.Decide.{dec_lt}
 use mathlib.Core.Path.{◌≡◌, refl, sym, ap, subst, ◌∙◌}
 use mathlib.Core.Bool.{Bool, true, false, cond, true≢false}
 use mathlib.Core.List.{List, [], ◌∷◌, ◌++◌, map, map-append}
-use mathlib.Core.Option.{Option, none, some}
+use Rattle.std.specs.Prelude.{Option, None, Some}
+use Rattle.std.specs.Option.{unwrap_or}
+use Rattle.std.proofs.lemmas.Option.{none-some}
 use lib.ListN.{length, length-append, length-map}
-use borrow.Author.Tests.{ne_eqb, eqb-true, eqb-false}
+use borrow.Author.Tests.{ne_eqb}
 use Rattle.answer.specs.declared.Answer.{Answer}
 use Rattle.answer.specs.declared.Answer.TheVariants as answer
 use Rattle.answer.specs.Table.{event_limit}
-use Rattle.answer.specs.Codes.{code_of, IsAccepted, is_accepted, is_no_verdict}
+use Rattle.answer.specs.Codes.{code_of, IsAccepted, is_accepted}
 use Rattle.event.specs.declared.Event.{Event}
-use Rattle.decoder.specs.declared.Item.{Item}
-use Rattle.decoder.specs.declared.Item.TheVariants.{Decoded, UnknownKind, WrongBodyLength, FieldNotAllowed}
+use Rattle.decoder.specs.Item.{Item}
+use Rattle.decoder.specs.declared.Undecoded.TheVariants.{UnknownKind, WrongBodyLength, FieldNotAllowed}
+use Rattle.std.specs.Prelude.{Ok, Err}
 use Rattle.decoder.specs.Kinds.{refusal_of, is_decoded}
 use Rattle.checks.specs.Faults.{fault_alone}
 use Rattle.operations.specs.declared.Record.{Record}
 use Rattle.operations.specs.Table.{range_words, mark_words, placed}
 use Rattle.parts.specs.declared.Part.{Part}
 use Rattle.parts.specs.Parts.{part_of}
-use Rattle.rules.specs.Faults.{Lengths}
+use Rattle.rules.specs.declared.Lengths.{Lengths}
 use Rattle.rules.specs.Peak.{peak}
 use Rattle.rules.specs.Answers.{partner_of, clash_with, or_go_on, judged, answer_of, answer_of_events}
 use Rattle.rules.proofs.Accepted.{refused-more}
 use Rattle.judge.specs.declared.State.{State}
 use Rattle.judge.specs.AsLeft.{made_by, open_records, tracking, ended, AsLeft, Carried}
-use Rattle.judge.specs.Step.{goes_on, lengths_of, counted, refused_by, passed_to, After, leaving, left_by, event_leaves, item_leaves, step_of, Stepped}
-use Rattle.judge.proofs.Acting.{Holds, clash_in, records_after, made_after, if_clash, Acted, acted}
-use Rattle.judge.proofs.Sound.{going, counted-past, counted-kept}
-use Rattle.judge.proofs.Opens.{partner_from, length_open, records-next, partner_found, tracking-next}
-use Rattle.judge.proofs.Answers.{some-verdict, too_many, answer-next, judged-undecoded, fault-refuses, judged-refused, judged-passed}
+use Rattle.judge.specs.Step.{goes_on, counted, refused_by, passed_to, After, leaving, clash_in, left_by, or_fault, event_leaves, item_leaves, step_of, Stepped}
+use Rattle.judge.proofs.Acting.{Holds, records_after, made_after, if_clash, Acted, acted}
+use Rattle.judge.proofs.Sound.{going, counted-past, counted-on}
+use Rattle.judge.proofs.Opens.{length_open, records-next, partner_found, tracking-next}
+use Rattle.judge.proofs.Answers.{too_many, answer-next, judged-undecoded, fault-refuses, judged-refused, judged-passed}
 use Rattle.judge.proofs.Leaving.{How, passing, over, how, open_at, carried-refused, carried-passed, goes_on_if}
 
 one_more : {A : Type 0} (xs : List A) (x : A) → length (xs ++ x ∷ []) ≡ length xs + 1
@@ -42,10 +45,10 @@ refusal_no_acceptance : (a : Answer) → ¬ IsAccepted a → is_accepted a ≡ f
 refusal_no_acceptance a h = ne_eqb (code_of a) 1 h
 
 refused_item : (j : ℕ) (item : Item) → is_decoded item ≡ false → is_accepted (refusal_of j item) ≡ false
-refused_item j (Decoded e) h = absurd (true≢false h)
-refused_item j UnknownKind h = refl
-refused_item j WrongBodyLength h = refl
-refused_item j FieldNotAllowed h = refl
+refused_item j (Ok e) h = absurd (true≢false h)
+refused_item j (Err UnknownKind) h = refl
+refused_item j (Err WrongBodyLength) h = refl
+refused_item j (Err FieldNotAllowed) h = refl
 
 module _ {lengths : Lengths} {items : List Item} {s : State} {ranges marks : List ℕ}
     (left : AsLeft lengths items s ranges marks) where
@@ -58,12 +61,12 @@ module _ {lengths : Lengths} {items : List Item} {s : State} {ranges marks : Lis
       (suc event_limit) s' (too_many lengths (items ++ item ∷ []) (omega (arith, one_more items item))) refl
       (omega (arith, one_more items item)) e
 
-  full_if : (es : List Event) → items ≡ map Decoded es → IsAccepted (answer_of_events lengths es) → s ≡ tracking lengths es
+  full_if : (es : List Event) → items ≡ map Ok es → IsAccepted (answer_of_events lengths es) → s ≡ tracking lengths es
       → goes_on s (length ranges) (length marks) ≡ false → event_limit ≤ length items
   full_if es are h state stops = elim (dec_lt (length es) event_limit) [
     | yes few ↦ absurd (true≢false (sym (goes_on_if lengths es h (length ranges) (length marks) left.ranges_long
         left.marks_long few) ∙ ap (λ t. goes_on t (length ranges) (length marks)) (sym state) ∙ stops))
-    | no full ↦ omega (arith, ap length are, length-map es Decoded)
+    | no full ↦ omega (arith, ap length are, length-map {B = Item} es Ok)
   ]
 
   -- after a refusal events are counted
@@ -74,15 +77,14 @@ module _ {lengths : Lengths} {items : List Item} {s : State} {ranges marks : Lis
     | yes few ↦ (
         let same = refused-more lengths (item ∷ []) items (omega (arith, one_more items item)) h in
         let events : s.events ≡ length items = ap (λ (t : State). t.events) state ∙ omega arith in
-        let kept = counted-kept s (omega arith)
-        (λ z. some-verdict lengths items (ap (λ (t : State). code_of t.refusal) (sym state) ∙ z)) in
         carried-refused lengths items item ranges marks left.ranges_long left.marks_long (answer_of lengths items)
         (length items + 1) s' same (refusal_no_acceptance (answer_of lengths items) h) (omega (arith, one_more items item))
-        (e ∙ kept ∙ (λ i. ended (lengths_of (state i)) (events i + 1) (state i).refusal)))
+        (e ∙ counted-on s (omega arith)
+        ∙ (λ i. ended (state i).lengths (events i + 1) (unwrap_or (state i).refusal answer.WrongShape))))
     | no full ↦
         past item s' (omega arith)
         (e ∙ counted-past s (omega (arith, ap (λ (t : State). t.events) state))
-        ∙ (λ i. ended (lengths_of (state i)) (suc event_limit) answer.TooManyEvents))
+        ∙ (λ i. ended (state i).lengths (suc event_limit) answer.TooManyEvents))
   ]
 
   carried-counted : (item : Item) (s' : State) → goes_on s (length ranges) (length marks) ≡ false → s' ≡ counted s
@@ -94,15 +96,15 @@ module _ {lengths : Lengths} {items : List Item} {s : State} {ranges marks : Lis
           let full = full_if es are h state stops in
           let events = ap (λ (t : State). t.events) state in
           past item s' full
-          (e ∙ counted-past s (omega (arith, events, ap length are, length-map es Decoded))
-          ∙ (λ i. ended (lengths_of (state i)) (suc event_limit) answer.TooManyEvents))
+          (e ∙ counted-past s (omega (arith, events, ap length are, length-map {B = Item} es Ok))
+          ∙ (λ i. ended (state i).lengths (suc event_limit) answer.TooManyEvents))
       by_way (over h state) = counted_on item s' h state e
 
   -- ---- the judge goes on
   -- then nothing is refused, and one event more is within the limit
   record Goes (item : Item) : Type 0 where
     es : List Event
-    are : items ≡ map Decoded es
+    are : items ≡ map Ok es
     accepted : IsAccepted (answer_of_events lengths es)
     state : s ≡ tracking lengths es
     in_ranges_lem : ranges ≡ placed range_words (open_at es) ranges
@@ -130,8 +132,8 @@ module _ {lengths : Lengths} {items : List Item} {s : State} {ranges marks : Lis
             next = ap (λ l. answer_of lengths (l ++ item ∷ [])) are ∙ answer-next lengths es h item few;
           }
       by_way (over h state) =
-          absurd (some-verdict lengths items
-          (ap (λ (t : State). code_of t.refusal) (sym state) ∙ (going s (length ranges) (length marks) on).none_refused))
+          absurd (none-some _ (sym (going s (length ranges) (length marks) on).none_refused
+          ∙ ap (λ (t : State). t.refusal) state))
 
   abbrev CarriedTo : Item → After → Type 0
   CarriedTo item after = Carried lengths items item ranges marks after.state after.ranges after.marks
@@ -143,9 +145,9 @@ module _ {lengths : Lengths} {items : List Item} {s : State} {ranges marks : Lis
     refused_with item a s' g q refusal e =
         let events = ap (λ (t : State). t.events) g.state in
         let count : s.events + 1 ≡ min (length (items ++ item ∷ [])) (suc event_limit) =
-        omega (arith, one_more items item, events, ap length g.are, length-map g.es Decoded, g.few) in
+        omega (arith, one_more items item, events, ap length g.are, length-map {B = Item} g.es Ok, g.few) in
         carried-refused lengths items item ranges marks left.ranges_long left.marks_long a (s.events + 1) s' q refusal count
-        (e ∙ (λ i. ended (lengths_of (g.state i)) (s.events + 1) a))
+        (e ∙ (λ i. ended (g.state i).lengths (s.events + 1) a))
 
     carried-undecoded : (item : Item) (s' : State) → is_decoded item ≡ false → s' ≡ refused_by s (refusal_of s.events item)
         → Carried lengths items item ranges marks s' ranges marks
@@ -157,22 +159,21 @@ module _ {lengths : Lengths} {items : List Item} {s : State} {ranges marks : Lis
         (refused_item s.events item no-event) e
 
     -- an event's own checks are those of its place in the list
-    its-fault : (e : Event) (g : Goes (Decoded e)) → fault_alone (lengths_of s) s.events e ≡ fault_alone lengths (length g.es) e
-    its-fault e g = λ i. fault_alone (lengths_of (g.state i)) (g.state i).events e
+    its-fault : (e : Event) (g : Goes (Ok e)) → fault_alone s.lengths s.events e ≡ fault_alone lengths (length g.es) e
+    its-fault e g = λ i. fault_alone (g.state i).lengths (g.state i).events e
 
-    carried-fault : (event : Event) (a : Answer) (s' : State) → a ≡ fault_alone (lengths_of s) s.events event
-        → ¬ (code_of a ≡ 0) → s' ≡ refused_by s a → Carried lengths items (Decoded event) ranges marks s' ranges marks
-    carried-fault event a s' fault refusal e =
-        let g = goes on (Decoded event) in
-        let same = fault ∙ its-fault event g in
-        refused_with (Decoded event) a s' g
-        (g.next ∙ judged-refused lengths g.es event (λ z. refusal (ap code_of same ∙ z)) ∙ sym same)
-        (ap is_accepted fault ∙ fault-refuses (lengths_of s) s.events event) e
+    carried-fault : (event : Event) (fault : Answer) → fault_alone s.lengths s.events event ≡ Some fault
+        → CarriedTo (Ok event) (leaving (refused_by s fault) ranges marks)
+    carried-fault event fault found =
+        let g = goes on (Ok event) in
+        refused_with (Ok event) fault (refused_by s fault) g
+        (g.next ∙ judged-refused lengths g.es event (sym (its-fault event g) ∙ found))
+        (fault-refuses s.lengths s.events event found) refl
 
     -- what an event without fault leaves
-    module _ (event : Event) (passes : code_of (fault_alone (lengths_of s) s.events event) ≡ 0) where
-      abbrev g : Goes (Decoded event)
-      g = goes on (Decoded event)
+    module _ (event : Event) (passes : fault_alone s.lengths s.events event ≡ None) where
+      abbrev g : Goes (Ok event)
+      g = goes on (Ok event)
 
       abbrev n : ℕ
       n = length g.es
@@ -201,15 +202,15 @@ module _ {lengths : Lengths} {items : List Item} {s : State} {ranges marks : Lis
           (part_of s.events s.made event))
 
       answered : (o : Option ℕ) → partner_of g.es event ≡ o
-          → answer_of lengths (items ++ Decoded event ∷ [])
+          → answer_of lengths (items ++ Ok event ∷ [])
           ≡ or_go_on (clash_with n o) (answer.Accepted (length longer) (peak longer (length longer)))
       answered o q =
-          g.next ∙ judged-passed lengths g.es event (ap code_of (sym (its-fault event g)) ∙ passes)
+          g.next ∙ judged-passed lengths g.es event (sym (its-fault event g) ∙ passes)
           ∙ ap (λ o. or_go_on (clash_with n o) (answer.Accepted (length longer) (peak longer (length longer)))) q
 
       -- what is left depends on the partner
-      found : (o : Option ℕ) → partner_of g.es event ≡ o → clash_in its-part (open_at g.es) ≡ partner_from o
-      found o q = partner_found g.es event ∙ ap partner_from q
+      found : (o : Option ℕ) → partner_of g.es event ≡ o → clash_in its-part (open_at g.es) ≡ o
+      found o q = partner_found g.es event ∙ q
 
       abbrev next : State
       next =
@@ -217,13 +218,13 @@ module _ {lengths : Lengths} {items : List Item} {s : State} {ranges marks : Lis
           (made_after its-part (made_by g.es n))
 
       states : (o : Option ℕ) → partner_of g.es event ≡ o → after.state
-          ≡ if_clash (partner_from o) (λ i. refused_by (tracking lengths g.es) (answer.Clash n i)) next
+          ≡ if_clash o (λ i. refused_by (tracking lengths g.es) (answer.Clash n i)) next
       states o q =
           left_by_records.state_after
           ∙ ap (λ c. if_clash c (λ i. refused_by (tracking lengths g.es) (answer.Clash n i)) next) (found o q)
 
       abbrev stand : (o : Option ℕ) → List Record
-      stand o = if_clash (partner_from o) (λ i. open_at g.es) (records_after its-part (open_at g.es))
+      stand o = if_clash o (λ i. open_at g.es) (records_after its-part (open_at g.es))
 
       ranges-stand : (o : Option ℕ) → partner_of g.es event ≡ o → after.ranges ≡ placed range_words (stand o) ranges
       ranges-stand o q =
@@ -241,46 +242,40 @@ module _ {lengths : Lengths} {items : List Item} {s : State} {ranges marks : Lis
       opens = records-next g.es event ∙ ap (λ m. open_records longer m m) (omega (arith, one_more g.es event))
 
       by_partner : (o : Option ℕ) → partner_of g.es event ≡ o
-          → Carried lengths items (Decoded event) ranges marks after.state after.ranges after.marks
-      by_partner none q =
-          let same : items ++ Decoded event ∷ [] ≡ map Decoded longer =
-          ap (λ l. l ++ Decoded event ∷ []) g.are ∙ sym (map-append Decoded g.es (event ∷ [])) in
-          let accepted = ap code_of (ap (answer_of lengths) (sym same) ∙ answered none q) in
-          subst (λ l. Carried lengths l (Decoded event) ranges marks after.state after.ranges after.marks) (sym g.are)
+          → Carried lengths items (Ok event) ranges marks after.state after.ranges after.marks
+      by_partner None q =
+          let same : items ++ Ok event ∷ [] ≡ map Ok longer =
+          ap (λ l. l ++ Ok event ∷ []) g.are ∙ sym (map-append Ok g.es (event ∷ [])) in
+          let accepted = ap code_of (ap (answer_of lengths) (sym same) ∙ answered None q) in
+          subst (λ l. Carried lengths l (Ok event) ranges marks after.state after.ranges after.marks) (sym g.are)
           (carried-passed lengths g.es event after.state ranges marks after.ranges after.marks
           left.ranges_long left.marks_long accepted
-          (states none q ∙ tracking-next g.es event lengths)
-          (ranges-stand none q ∙ ap (λ rs. placed range_words rs ranges) opens)
-          (marks-stand none q ∙ ap (λ rs. placed mark_words rs marks) opens))
-      by_partner (some i) q =
-          let same-ranges : ranges ≡ after.ranges = g.in_ranges_lem ∙ sym (ranges-stand (some i) q) in
-          let same-marks : marks ≡ after.marks = g.in_marks ∙ sym (marks-stand (some i) q) in
-          subst (λ r. Carried lengths items (Decoded event) ranges marks after.state r after.marks) same-ranges
-          (subst (λ m. Carried lengths items (Decoded event) ranges marks after.state ranges m) same-marks
-          (refused_with (Decoded event) (answer.Clash n i) after.state g (answered (some i) q) refl
-          (states (some i) q ∙ ap (λ t. refused_by t (answer.Clash n i)) (sym g.state))))
+          (states None q ∙ tracking-next g.es event lengths)
+          (ranges-stand None q ∙ ap (λ rs. placed range_words rs ranges) opens)
+          (marks-stand None q ∙ ap (λ rs. placed mark_words rs marks) opens))
+      by_partner (Some i) q =
+          let same-ranges : ranges ≡ after.ranges = g.in_ranges_lem ∙ sym (ranges-stand (Some i) q) in
+          let same-marks : marks ≡ after.marks = g.in_marks ∙ sym (marks-stand (Some i) q) in
+          subst (λ r. Carried lengths items (Ok event) ranges marks after.state r after.marks) same-ranges
+          (subst (λ m. Carried lengths items (Ok event) ranges marks after.state ranges m) same-marks
+          (refused_with (Ok event) (answer.Clash n i) after.state g (answered (Some i) q) refl
+          (states (Some i) q ∙ ap (λ t. refused_by t (answer.Clash n i)) (sym g.state))))
 
-      carried-left : Carried lengths items (Decoded event) ranges marks after.state after.ranges after.marks
+      carried-left : Carried lengths items (Ok event) ranges marks after.state after.ranges after.marks
       carried-left = by_partner (partner_of g.es event) refl
 
     -- ---- an item, whatever it is
-    carried-event : (e : Event) → CarriedTo (Decoded e) (event_leaves e s ranges marks)
-    carried-event e = by_fault (is_no_verdict fault) refl
+    carried-event : (e : Event) → CarriedTo (Ok e) (event_leaves e s ranges marks)
+    carried-event e = by_fault (fault_alone s.lengths s.events e) refl
       where
-        fault : Answer
-        fault = fault_alone (lengths_of s) s.events e
-
-        by_fault : (t : Bool) → is_no_verdict fault ≡ t
-            → CarriedTo (Decoded e)
-            (cond t (left_by (part_of s.events s.made e) s ranges marks) (leaving (refused_by s fault) ranges marks))
-        by_fault true h = carried-left e (eqb-true (code_of fault) 0 h)
-        by_fault false h = carried-fault e fault (refused_by s fault) refl (eqb-false (code_of fault) 0 h) refl
+        by_fault : (o : Option Answer) → fault_alone s.lengths s.events e ≡ o
+            → CarriedTo (Ok e) (or_fault o s ranges marks (left_by (part_of s.events s.made e) s ranges marks))
+        by_fault None passes = carried-left e passes
+        by_fault (Some fault) found = carried-fault e fault found
 
     carried_item : (item : Item) → CarriedTo item (item_leaves item s ranges marks)
-    carried_item (Decoded e) = carried-event e
-    carried_item UnknownKind = carried-undecoded UnknownKind _ refl refl
-    carried_item WrongBodyLength = carried-undecoded WrongBodyLength _ refl refl
-    carried_item FieldNotAllowed = carried-undecoded FieldNotAllowed _ refl refl
+    carried_item (Ok e) = carried-event e
+    carried_item (Err undecoded) = carried-undecoded (Err undecoded) _ refl refl
 
   -- ---- so a step carries on what the judge left
   pub step_carries : (item : Item)
@@ -318,18 +313,19 @@ module _ (s : State) (ranges marks : List ℕ) where
 
     pub step-undecoded : (item : Item) → is_decoded item ≡ false
         → step_of item s ranges marks ≡ leaving (refused_by s (refusal_of s.events item)) ranges marks
-    step-undecoded (Decoded e) h = absurd (true≢false h)
-    step-undecoded UnknownKind h = step_on UnknownKind
-    step-undecoded WrongBodyLength h = step_on WrongBodyLength
-    step-undecoded FieldNotAllowed h = step_on FieldNotAllowed
+    step-undecoded (Ok e) h = absurd (true≢false h)
+    step-undecoded (Err undecoded) h = step_on (Err undecoded)
 
-    abbrev faulty : Event → After
-    faulty e = leaving (refused_by s (fault_alone (lengths_of s) s.events e)) ranges marks
+    -- .. with an event that has a fault of its own, or none
+    by_fault : (e : Event) (o : Option Answer) → fault_alone s.lengths s.events e ≡ o
+        → step_of (Ok e) s ranges marks ≡ or_fault o s ranges marks (left_by (part_of s.events s.made e) s ranges marks)
+    by_fault e o h =
+        step_on (Ok e) ∙ ap (λ o. or_fault o s ranges marks (left_by (part_of s.events s.made e) s ranges marks)) h
 
-    pub step-fault : (e : Event) → is_no_verdict (fault_alone (lengths_of s) s.events e) ≡ false
-        → step_of (Decoded e) s ranges marks ≡ faulty e
-    step-fault e h = step_on (Decoded e) ∙ ap (λ t. cond t (left_by (part_of s.events s.made e) s ranges marks) (faulty e)) h
+    pub step-fault : (e : Event) (fault : Answer) → fault_alone s.lengths s.events e ≡ Some fault
+        → step_of (Ok e) s ranges marks ≡ leaving (refused_by s fault) ranges marks
+    step-fault e fault = by_fault e (Some fault)
 
-    pub step-passes : (e : Event) → is_no_verdict (fault_alone (lengths_of s) s.events e) ≡ true
-        → step_of (Decoded e) s ranges marks ≡ left_by (part_of s.events s.made e) s ranges marks
-    step-passes e h = step_on (Decoded e) ∙ ap (λ t. cond t (left_by (part_of s.events s.made e) s ranges marks) (faulty e)) h
+    pub step-passes : (e : Event) → fault_alone s.lengths s.events e ≡ None
+        → step_of (Ok e) s ranges marks ≡ left_by (part_of s.events s.made e) s ranges marks
+    step-passes e = by_fault e None

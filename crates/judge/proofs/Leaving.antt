@@ -7,20 +7,18 @@ use mathlib.Core.Bool.{Bool, true, false, true≢false}
 use mathlib.Core.List.{List, [], ◌∷◌, ◌++◌, map, map-append}
 use lib.ListN.{length}
 use borrow.Author.Tests.{le-leb, lt-ltb, eqb-true, eq-eqb}
-use Rattle.little_endian.proofs.Tests.{both}
 use Rattle.answer.specs.declared.Answer.{Answer}
 use Rattle.answer.specs.Table.{event_limit}
 use Rattle.answer.specs.Codes.{code_of, IsAccepted, is_accepted}
 use Rattle.event.specs.declared.Event.{Event}
-use Rattle.decoder.specs.declared.Item.{Item}
-use Rattle.decoder.specs.declared.Item.TheVariants.{Decoded}
-use Rattle.trace.specs.File.{is_memory_length}
+use Rattle.decoder.specs.Item.{Item}
+use Rattle.std.specs.Prelude.{Ok}
 use Rattle.operations.specs.declared.Record.{Record}
 use Rattle.operations.specs.Table.{range_words, mark_words, placed}
 use Rattle.operations.proofs.Records.{length-placed, again, four-ranges, four-marks}
 use Rattle.rules.specs.Closing.{Chain, NonBulk, Bulk, Role, operation, commit, wait_all, other, wait, groups, is_open, role}
 use Rattle.rules.specs.Events.{event_at}
-use Rattle.rules.specs.Faults.{Lengths}
+use Rattle.rules.specs.declared.Lengths.{Lengths}
 use Rattle.rules.specs.Peak.{open_after, peak}
 use Rattle.rules.specs.Answers.{answer_of, answer_of_events}
 use Rattle.rules.proofs.Counting.{makes, commits}
@@ -34,7 +32,7 @@ use Rattle.judge.specs.Step.{is_sound, goes_on}
 use Rattle.judge.proofs.Opens.{length_open}
 
 -- ---- lists of events
-events-again : (es : List Event) → events_of (map Decoded es) ≡ es
+events-again : (es : List Event) → events_of (map Ok es) ≡ es
 events-again [] = refl
 events-again (e ∷ es) = ap (λ l. e ∷ l) (events-again es)
 
@@ -67,7 +65,7 @@ open_at es = open_records es (length es) (length es)
 
 -- ---- the two ways to be left
 pub data How (lengths : Lengths) (items : List Item) (s : State) (ranges marks : List ℕ) : Type 0 where
-  passing : (es : List Event) → items ≡ map Decoded es → IsAccepted (answer_of_events lengths es) → s ≡ tracking lengths es
+  passing : (es : List Event) → items ≡ map Ok es → IsAccepted (answer_of_events lengths es) → s ≡ tracking lengths es
       → ranges ≡ placed range_words (open_at es) ranges → marks ≡ placed mark_words (open_at es) marks
       → How lengths items s ranges marks
   over : ¬ IsAccepted (answer_of lengths items)
@@ -140,11 +138,11 @@ module _ (lengths : Lengths) (es : List Event) (h : IsAccepted (answer_of_events
   test : is_accepted (answer_of_events lengths es) ≡ true
   test = eq-eqb (code_of (answer_of_events lengths es)) 1 h
 
-  pub open_is : open_of lengths (map Decoded es) ≡ open_at es
-  open_is = open_accepted lengths (map Decoded es) test ∙ ap open_at (events-again es)
+  pub open_is : open_of lengths (map Ok es) ≡ open_at es
+  open_is = open_accepted lengths (map Ok es) test ∙ ap open_at (events-again es)
 
-  pub state_tracks : state_of lengths (map Decoded es) ≡ tracking lengths es
-  state_tracks = state-accepted lengths (map Decoded es) test ∙ ap (tracking lengths) (events-again es)
+  pub state_tracks : state_of lengths (map Ok es) ≡ tracking lengths es
+  state_tracks = state-accepted lengths (map Ok es) test ∙ ap (tracking lengths) (events-again es)
 
   few : length es ≤ event_limit
   few = (accepted_well_formed lengths es h).limits.events
@@ -153,7 +151,7 @@ module _ (lengths : Lengths) (es : List Event) (h : IsAccepted (answer_of_events
   left-tracking : (s : State) (ranges marks ranges' marks' : List ℕ)
       → place_length ≤ length ranges → place_length ≤ length marks → s ≡ tracking lengths es
       → ranges' ≡ placed range_words (open_at es) ranges → marks' ≡ placed mark_words (open_at es) marks
-      → AsLeft lengths (map Decoded es) s ranges' marks'
+      → AsLeft lengths (map Ok es) s ranges' marks'
   left-tracking s ranges marks ranges' marks' long-ranges long-marks state in_ranges_lem in_marks = record {
     ranges_long = still-long range_words four-ranges es ranges ranges' few long-ranges in_ranges_lem;
     marks_long = still-long mark_words four-marks es marks marks' few long-marks in_marks;
@@ -170,11 +168,11 @@ pub carried-passed : (lengths : Lengths) (es : List Event) (e : Event) (s' : Sta
     → place_length ≤ length ranges → place_length ≤ length marks
     → IsAccepted (answer_of_events lengths (es ++ e ∷ [])) → s' ≡ tracking lengths (es ++ e ∷ [])
     → ranges' ≡ placed range_words (open_at (es ++ e ∷ [])) ranges → marks' ≡ placed mark_words (open_at (es ++ e ∷ [])) marks
-    → Carried lengths (map Decoded es) (Decoded e) ranges marks s' ranges' marks'
+    → Carried lengths (map Ok es) (Ok e) ranges marks s' ranges' marks'
 carried-passed lengths es e s' ranges marks ranges' marks' long-ranges long-marks h state in_ranges_lem in_marks =
     let longer = es ++ e ∷ [] in
-    let items : map Decoded longer ≡ map Decoded es ++ Decoded e ∷ [] = map-append Decoded es (e ∷ []) in
-    let opens : open_of lengths (map Decoded es ++ Decoded e ∷ []) ≡ open_at longer =
+    let items : map Ok longer ≡ map Ok es ++ Ok e ∷ [] = map-append Ok es (e ∷ []) in
+    let opens : open_of lengths (map Ok es ++ Ok e ∷ []) ≡ open_at longer =
     ap (open_of lengths) (sym items) ∙ open_is lengths longer h in
     record {
       left =
@@ -210,15 +208,13 @@ module _ (lengths : Lengths) (es : List Event) (h : IsAccepted (answer_of_events
   sound_tracking =
       let limits = (accepted_well_formed lengths es h).limits in
       let n = length es in
-      let (global, shared) = both (is_memory_length lengths.global) (is_memory_length lengths.shared) limits.memories in
       rw (
         le-leb (open_after es n) (peak es n) (open_most es n),
         le-leb (peak es n) n (peak_most es n),
         le-leb n event_limit limits.events,
         le-leb (length (groups NonBulk es n).made) n (made_most NonBulk es n),
         le-leb (length (groups Bulk es n).made) n (made_most Bulk es n),
-        global,
-        shared,
+        limits.memories,
       )
 
   pub goes_on_if : (ranges marks : ℕ) → place_length ≤ ranges → place_length ≤ marks → length es < event_limit

@@ -6,42 +6,43 @@ use native.Mathlib.Omega.{arith}
 use mathlib.Core.Path.{◌≡◌, refl, sym, ◌∙◌, ap, ap₂}
 use mathlib.Core.Bool.{Bool, true, false, not, cond, ◌&&◌, false≢true, and-false}
 use mathlib.Core.List.{List, [], ◌∷◌, ◌++◌, append-nil}
-use mathlib.Core.Option.{Option, none, some, or_else}
+use Rattle.std.specs.Prelude.{None, Some, option_map}
+use Rattle.std.specs.Option.{option_or}
 use lib.Dec.{leb, ltb}
 use lib.ListN.{length, length-append}
 use lib.Seq.{get_or-append_seam}
 use borrow.Author.Tests.{ltb-true, ltb-false, le-leb, lt-leb}
+use Rattle.std.proofs.lemmas.List.Elements.{filter-append}
 use Rattle.little_endian.proofs.Tests.{both}
 use Rattle.event.specs.declared.Address.TheVariants.{Global, Shared}
 use Rattle.event.specs.declared.Event.{Event}
 use Rattle.event.specs.declared.Event.TheVariants as event
 use Rattle.event.specs.Fields.{operation_number, type_number}
-use Rattle.operations.specs.declared.Partner.{Partner}
-use Rattle.operations.specs.declared.Partner.TheVariants as partner
+use Rattle.operations.specs.declared.Chain.TheVariants as table
 use Rattle.operations.specs.declared.Record.{Record}
 use Rattle.operations.specs.Tag.{chain_in}
 use Rattle.operations.specs.Clash.{first_clash}
 use Rattle.operations.specs.Waiting.{stays_open, kept}
 use Rattle.operations.proofs.Tags.{chain_back}
-use Rattle.operations.proofs.Searching.{or_next, first-append}
-use Rattle.operations.proofs.Keeping.{stays-other, stays_by_count, kept_append, only_if}
+use Rattle.operations.proofs.Searching.{first-append}
+use Rattle.operations.proofs.Keeping.{stays-other, stays_by_count, only_if}
 use Rattle.parts.specs.declared.GroupsMade.{GroupsMade}
 use Rattle.parts.specs.declared.Part.{Part}
 use Rattle.parts.specs.declared.Part.TheVariants as part
-use Rattle.parts.specs.Parts.{wait_copies, wait_bulk, commit_copies, part_of}
+use Rattle.parts.specs.Parts.{committed, wait_on, part_of}
 use Rattle.rules.specs.Search.{count_below, lowest_below}
 use Rattle.rules.specs.Events.{event_at}
 use Rattle.rules.specs.Closing.{Chain, NonBulk, Bulk, operation, role, is_operation, closed_by, is_open}
 use Rattle.rules.specs.Peak.{open_after, peak}
 use Rattle.rules.specs.Tests.{collide, clashes}
 use Rattle.rules.specs.Answers.{partner_of}
-use Rattle.rules.specs.Faults.{Lengths}
+use Rattle.rules.specs.declared.Lengths.{Lengths}
 use Rattle.rules.proofs.Counting.{makes, commits, commits-up}
 use Rattle.rules.proofs.Prefix.{agree-append}
 use Rattle.rules.proofs.Next.{made-commits, closes_now, commits-old, commits-next, closed-next, open_next, open_new, clashes-next, peak-next}
 use Rattle.judge.specs.AsLeft.{made_by, record_in, record_of, open_records, tracking}
-use Rattle.judge.specs.Step.{passed_to}
-use Rattle.judge.proofs.Acting.{clash_in, records_after, made_after}
+use Rattle.judge.specs.Step.{passed_to, clash_in}
+use Rattle.judge.proofs.Acting.{records_after, made_after}
 use Rattle.judge.proofs.Touching.{touch_in, clash-collide, no_touch}
 
 -- ---- groups made
@@ -145,7 +146,7 @@ by_append : (p : Part) (rs ss : List Record) → kept_by p (rs ++ ss) ≡ kept_b
 by_append (part.Access r) rs ss = refl
 by_append (part.Operation r) rs ss = refl
 by_append (part.Commit made) rs ss = refl
-by_append (part.Wait made wait) rs ss = kept_append wait rs ss
+by_append (part.Wait made wait) rs ss = filter-append (stays_open wait) rs ss
 
 by_one : (p : Part) (o : Record) → kept_by p (o ∷ []) ≡ only_if (stays p o) o
 by_one (part.Access r) o = refl
@@ -186,33 +187,23 @@ stays_open_lem n made (event.Copy dst src cp_size mode cache) o Bulk c l = refl
 stays_open_lem n made event.Commit o NonBulk c l = refl
 stays_open_lem n made event.Commit o Bulk c l = refl
 stays_open_lem n made (event.Wait m) o NonBulk c l =
-    stays_by_count (wait_copies made m) o c ∙ not_less made.copies (o.commits + m)
-stays_open_lem n made (event.Wait m) o Bulk c l = stays-other (wait_copies made m) o (λ z. differ z c)
+    stays_by_count (wait_on table.Copies made m) o c ∙ not_less made.copies (o.commits + m)
+stays_open_lem n made (event.Wait m) o Bulk c l = stays-other (wait_on table.Copies made m) o (λ z. differ z c)
 stays_open_lem n made event.WaitAll o NonBulk c l =
-    stays_by_count (wait_copies (commit_copies made) 0) o c ∙ lt-leb (made.copies + 1) (o.commits + 0) (omega arith)
-stays_open_lem n made event.WaitAll o Bulk c l = stays-other (wait_copies (commit_copies made) 0) o (λ z. differ z c)
+    stays_by_count (wait_on table.Copies (committed table.Copies made) 0) o c ∙ lt-leb (made.copies + 1) (o.commits + 0) (omega arith)
+stays_open_lem n made event.WaitAll o Bulk c l = stays-other (wait_on table.Copies (committed table.Copies made) 0) o (λ z. differ z c)
 stays_open_lem n made (event.BulkCopy dst src size) o NonBulk c l = refl
 stays_open_lem n made (event.BulkCopy dst src size) o Bulk c l = refl
 stays_open_lem n made (event.BulkReduction dst src size w t) o NonBulk c l = refl
 stays_open_lem n made (event.BulkReduction dst src size w t) o Bulk c l = refl
 stays_open_lem n made event.BulkCommit o NonBulk c l = refl
 stays_open_lem n made event.BulkCommit o Bulk c l = refl
-stays_open_lem n made (event.BulkWait m) o NonBulk c l = stays-other (wait_bulk made m) o (λ z. differ c z)
+stays_open_lem n made (event.BulkWait m) o NonBulk c l = stays-other (wait_on table.Bulk made m) o (λ z. differ c z)
 stays_open_lem n made (event.BulkWait m) o Bulk c l =
-    stays_by_count (wait_bulk made m) o c ∙ not_less made.bulk (o.commits + m)
+    stays_by_count (wait_on table.Bulk made m) o c ∙ not_less made.bulk (o.commits + m)
 
 -- ---- the partner found, as the search by events gives it
-abbrev pub partner_from : Option ℕ → Partner
-partner_from none = partner.Nobody
-partner_from (some i) = partner.Event i
-
-from_either : (o q : Option ℕ) → partner_from (or_else o q) ≡ or_next (partner_from o) (partner_from q)
-unfolding or_else
-from_either none q = refl
-from_either (some i) q = refl
-
-lowest-none : (p : ℕ → Bool) (n : ℕ) → ((i : ℕ) → i < n → p i ≡ false) → lowest_below p n ≡ none
-unfolding or_else
+lowest-none : (p : ℕ → Bool) (n : ℕ) → ((i : ℕ) → i < n → p i ≡ false) → lowest_below p n ≡ None
 lowest-none p zero h = refl
 lowest-none p (suc n) h = rw (lowest-none p n (λ i l. h i (omega arith)), h n (omega arith))
 
@@ -309,45 +300,44 @@ module _ (before : List Event) (e : Event) where
       after_kept its-part (open_records before n n) ∙ ap₂ ◌++◌ (kept-below n (omega arith)) (sym new_record)
 
   -- the first record that the event clashes with is of the lowest event that it clashes with
-  module _ (r : Record) (touches : touch_in its-part ≡ some r) where
+  module _ (r : Record) (touches : touch_in its-part ≡ Some r) where
     first_below : (k : ℕ) → k ≤ n
-        → first_clash r (open_records before n k) ≡ partner_from (lowest_below (λ i. clashes longer i n) k)
+        → first_clash r (open_records before n k) ≡ lowest_below (λ i. clashes longer i n) k
     unfolding open_records
     first_below zero l = refl
     first_below (suc k) l =
         first-append r (open_records before n k) (cond (is_open before n k) (record_of before k) [])
-        ∙ ap₂ or_next (first_below k (omega arith)) (one (is_open before n k) refl)
-        ∙ sym (from_either (lowest_below (λ i. clashes longer i n) k) (cond (clashes longer k n) (some k) none))
+        ∙ ap₂ option_or (first_below k (omega arith)) (one (is_open before n k) refl)
       where
         found : (t : Bool) → is_open before n k ≡ t
             → clashes longer k n ≡ (t && collide (event_at before k) e)
         found t h = clashes-next before e k (omega arith) ∙ ap (λ s. s && collide (event_at before k) e) h
 
-        by_clash : (t : Bool) (i : ℕ) → i ≡ k
-            → cond t (partner.Event i) partner.Nobody ≡ partner_from (cond t (some k) none)
-        by_clash true i q = ap partner.Event q
-        by_clash false i q = refl
+        by_clash : (t : Bool) (its : Record) → its.event ≡ k
+            → option_map (λ (o : Record). o.event) (cond t (Some its) None) ≡ cond t (Some k) None
+        by_clash true its q = ap Some q
+        by_clash false its q = refl
 
         one : (t : Bool) → is_open before n k ≡ t
-            → first_clash r (cond t (record_of before k) []) ≡ partner_from (cond (clashes longer k n) (some k) none)
+            → first_clash r (cond t (record_of before k) []) ≡ cond (clashes longer k n) (Some k) None
         one true h =
             let s = starts k (made_by before k) (event_at before k) (open_operation before n k h) in
             ap (λ p. first_clash r (record_in p)) s.part_is
-            ∙ ap (λ t. cond t (partner.Event s.its.event) partner.Nobody)
+            ∙ ap (λ t. option_map (λ (o : Record). o.event) (cond t (Some s.its) None))
             (clash-collide k (made_by before k) (event_at before k) s.its s.part_is n (made_by before n) e r touches)
-            ∙ by_clash (collide (event_at before k) e) s.its.event s.event_is
-            ∙ sym (ap (λ t. partner_from (cond t (some k) none)) (found true h))
-        one false h = sym (ap (λ t. partner_from (cond t (some k) none)) (found false h))
+            ∙ by_clash (collide (event_at before k) e) s.its s.event_is
+            ∙ sym (ap (λ t. cond t (Some k) None) (found true h))
+        one false h = sym (ap (λ t. cond t (Some k) None) (found false h))
 
-  no_partner : touch_in its-part ≡ none → partner.Nobody ≡ partner_from (partner_of before e)
-  no_partner h = sym (ap partner_from (lowest-none (λ i. clashes longer i n) n (λ i l.
+  no_partner : touch_in its-part ≡ None → None ≡ partner_of before e
+  no_partner h = sym (lowest-none (λ i. clashes longer i n) n (λ i l.
       clashes-next before e i l ∙ ap (λ t. is_open before n i && t) (no_touch n (made_by before n) (event_at before i) e h)
-      ∙ and-false (is_open before n i))))
+      ∙ and-false (is_open before n i)))
 
-  pub partner_found : clash_in its-part (open_records before n n) ≡ partner_from (partner_of before e)
+  pub partner_found : clash_in its-part (open_records before n n) ≡ partner_of before e
   partner_found = by_part its-part refl
     where
-      by_part : (p : Part) → its-part ≡ p → clash_in p (open_records before n n) ≡ partner_from (partner_of before e)
+      by_part : (p : Part) → its-part ≡ p → clash_in p (open_records before n n) ≡ partner_of before e
       by_part (part.Access r) h = first_below r (ap touch_in h) n (omega arith)
       by_part (part.Operation r) h = first_below r (ap touch_in h) n (omega arith)
       by_part (part.Commit made) h = no_partner (ap touch_in h)
@@ -369,7 +359,6 @@ module _ (before : List Event) (e : Event) where
         peak = max (peak before n) (open_after longer (suc n));
         unclosed = open_after longer (suc n);
         made = made_by longer (suc n);
-        global = lengths.global;
-        shared = lengths.shared;
+        lengths = lengths;
         refusal = (tracking lengths before).refusal;
       }) (omega arith))

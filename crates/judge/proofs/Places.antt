@@ -1,43 +1,41 @@
 -- What a step changes in the places: the statements of specs/Places.antt.
 -- Assumes nothing.
-use Prim.Native.Nat.{ℕ, suc, ◌+◌, ◌*◌, ◌-◌, ◌≤◌}
+use Prim.Native.Nat.{suc, ◌+◌, ◌*◌, ◌-◌, ◌≤◌}
 use native.Mathlib.Omega.{arith}
 use mathlib.Core.Path.{◌≡◌, refl, sym, ap, ◌∙◌}
-use mathlib.Core.Bool.{Bool, true, false, not, cond, true≢false, false≢true}
+use mathlib.Core.Bool.{Bool, true, false, cond, true≢false, false≢true}
 use mathlib.Core.List.{List, [], ◌∷◌, map}
 use lib.ListN.{length, drop, set}
+use Rattle.std.specs.Prelude.{ℕ, Option, None, Some, is_some, IsSome}
+use Rattle.std.specs.List.{flat_map}
+use Rattle.std.proofs.lemmas.List.Sums.{length-filter, count_by-le-length}
 use lib.Seq.{sets, drop-drop, drop-append-add, drop-set-lt}
 use Rattle.rules.specs.Answers.{answer_of_events}
-use Rattle.little_endian.specs.Number.{is_zero}
 use Rattle.answer.specs.declared.Answer.{Answer}
-use Rattle.answer.specs.Codes.{IsAccepted, is_no_verdict}
+use Rattle.answer.specs.Codes.{IsAccepted}
 use Rattle.event.specs.declared.Address.TheVariants.{Global, Shared}
 use Rattle.event.specs.declared.Event.{Event}
 use Rattle.event.specs.declared.Event.TheVariants.{Load, Store, Copy, Commit, Wait, WaitAll, BulkCopy, BulkReduction, BulkCommit, BulkWait}
-use Rattle.decoder.specs.declared.Item.{Item}
-use Rattle.decoder.specs.declared.Item.TheVariants.{Decoded, UnknownKind, WrongBodyLength, FieldNotAllowed}
+use Rattle.decoder.specs.Item.{Item}
+use Rattle.std.specs.Prelude.{Ok, Err}
 use Rattle.checks.specs.Faults.{fault_alone}
-use Rattle.operations.specs.declared.Partner.{Partner}
-use Rattle.operations.specs.declared.Partner.TheVariants as partner
 use Rattle.operations.specs.declared.Record.{Record}
 use Rattle.operations.specs.declared.Wait as operations
-use Rattle.operations.specs.Table.{range_words, mark_words, records, all_words, placed}
-use Rattle.operations.specs.Clash.{first_clash}
-use Rattle.operations.specs.Waiting.{kept}
+use Rattle.operations.specs.Table.{range_words, mark_words, records, placed}
 use Rattle.operations.proofs.Records.{length-all, four-ranges, four-marks, length-records}
-use Rattle.operations.proofs.Keeping.{kept-fewer}
+use Rattle.operations.specs.Waiting.{stays_open, kept}
 use Rattle.parts.specs.declared.GroupsMade.{GroupsMade}
 use Rattle.parts.specs.declared.Part.{Part}
 use Rattle.parts.specs.declared.Part.TheVariants as part
 use Rattle.parts.specs.Parts.{part_of}
 use Rattle.rules.specs.Closing.{is_operation}
-use Rattle.rules.specs.Faults.{Lengths}
+use Rattle.rules.specs.declared.Lengths.{Lengths}
 use Rattle.rules.specs.Peak.{open_after}
 use Rattle.rules.specs.Waited.{MayAdd}
 use Rattle.rules.specs.Waited as waited
 use Rattle.judge.specs.declared.State.{State}
 use Rattle.judge.specs.AsLeft.{place_length, AsLeft}
-use Rattle.judge.specs.Step.{lengths_of, goes_on, After, leaving, refused_by, passed_to, counted, or_clash, left_by, item_leaves, step_of}
+use Rattle.judge.specs.Step.{goes_on, After, leaving, refused_by, counted, clash_in, or_clash, passed_by, left_by, or_fault, item_leaves, step_of}
 use Rattle.judge.specs.Places.{Unchanged, refuses, RefusalsChangeNone, AccessesAndCommitsChangeNone, OperationsChangeTheirRecord, WaitsKeepRecords, WordsPastStay, OneRecordEach}
 use Rattle.judge.proofs.Sound.{going, counted-refusal}
 use Rattle.judge.proofs.Opens.{starts, length_open}
@@ -46,10 +44,8 @@ use Rattle.judge.proofs.Leaving.{open_at, open_is, state_tracks}
 
 -- the event of an item that has one
 abbrev event_in : Item → Event
-event_in (Decoded e) = e
-event_in UnknownKind = Commit
-event_in WrongBodyLength = Commit
-event_in FieldNotAllowed = Commit
+event_in (Ok e) = e
+event_in (Err undecoded) = Commit
 
 -- what is past the first n words stays, where records are put before, or words set
 past-stays : (words : Record → List ℕ) → ((r : Record) → length (words r) ≡ 4) → (rs : List Record) (place : List ℕ) (n : ℕ)
@@ -57,10 +53,10 @@ past-stays : (words : Record → List ℕ) → ((r : Record) → length (words r
 unfolding placed
 past-stays words four rs place n room =
     let all = length-all words four rs in
-    let over : length (all_words words rs) + (n - 4 * length rs) ≡ n = omega (arith, all) in
+    let over : length (flat_map words rs) + (n - 4 * length rs) ≡ n = omega (arith, all) in
     let there : 4 * length rs + (n - 4 * length rs) ≡ n = omega arith in
     ap (λ k. drop k (placed words rs place)) (sym over)
-    ∙ drop-append-add (all_words words rs) (drop (4 * length rs) place) (n - 4 * length rs)
+    ∙ drop-append-add (flat_map words rs) (drop (4 * length rs) place) (n - 4 * length rs)
     ∙ drop-drop (n - 4 * length rs) (4 * length rs) place ∙ ap (λ k. drop k place) there
 
 past-sets : (vs place : List ℕ) (i n : ℕ) → i + length vs ≤ n → drop n (sets place i vs) ≡ drop n place
@@ -70,44 +66,29 @@ past-sets (v ∷ vs) place i n h = past-sets vs (set place i v) (suc i) n (omega
 module _ (s : State) (ranges marks : List ℕ) where
   -- what an event leaves that clashes with nothing
   abbrev passing : Part → After
-  passing (part.Access r) = leaving (passed_to s s.unclosed s.made) ranges marks
-  passing (part.Operation r) =
-      leaving (passed_to s (s.unclosed + 1) s.made) (sets ranges (4 * s.unclosed) (range_words r))
-      (sets marks (4 * s.unclosed) (mark_words r))
-  passing (part.Commit made) = leaving (passed_to s s.unclosed made) ranges marks
-  passing (part.Wait made wait) =
-      leaving (passed_to s (length (kept wait (records s.unclosed ranges marks))) made)
-      (placed range_words (kept wait (records s.unclosed ranges marks)) ranges)
-      (placed mark_words (kept wait (records s.unclosed ranges marks)) marks)
+  passing p = passed_by p s ranges marks
 
   -- ---- a step refuses and changes no word, or its event passes
   data Either (item : Item) : After → Type 0 where
-    refusing : (s' : State) → is_no_verdict s'.refusal ≡ false → Either item (leaving s' ranges marks)
+    refusing : (s' : State) → IsSome s'.refusal → Either item (leaving s' ranges marks)
     passes : goes_on s (length ranges) (length marks) ≡ true → Either item (passing (part_of s.events s.made (event_in item)))
 
   module _ (e : Event) (on : goes_on s (length ranges) (length marks) ≡ true) where
-    by_partner : (q : Partner) (after : After) → Either (Decoded e) after → Either (Decoded e) (or_clash q s ranges marks after)
-    by_partner (partner.Event i) after w = refusing _ refl
-    by_partner partner.Nobody after w = w
+    by_partner : (q : Option ℕ) (after : After) → Either (Ok e) after → Either (Ok e) (or_clash q s ranges marks after)
+    by_partner (Some i) after w = refusing _ refl
+    by_partner None after w = w
 
-    by_part : (p : Part) → Either (Decoded e) (passing p) → Either (Decoded e) (left_by p s ranges marks)
-    by_part (part.Access r) w = by_partner (first_clash r (records s.unclosed ranges marks)) (passing (part.Access r)) w
-    by_part (part.Operation r) w = by_partner (first_clash r (records s.unclosed ranges marks)) (passing (part.Operation r)) w
-    by_part (part.Commit made) w = w
-    by_part (part.Wait made wait) w = w
+    by_part : (p : Part) → Either (Ok e) (passing p) → Either (Ok e) (left_by p s ranges marks)
+    by_part p = by_partner (clash_in p (records s.unclosed ranges marks)) (passing p)
 
-    by_fault : (fault : Answer) (t : Bool) → is_no_verdict fault ≡ t
-        → Either (Decoded e)
-        (cond t (left_by (part_of s.events s.made e) s ranges marks) (leaving (refused_by s fault) ranges marks))
-    by_fault fault true h = by_part (part_of s.events s.made e) (passes on)
-    by_fault fault false h = refusing (refused_by s fault) h
+    by_fault : (o : Option Answer)
+        → Either (Ok e) (or_fault o s ranges marks (left_by (part_of s.events s.made e) s ranges marks))
+    by_fault None = by_part (part_of s.events s.made e) (passes on)
+    by_fault (Some fault) = refusing (refused_by s fault) refl
 
   by_item : (item : Item) → goes_on s (length ranges) (length marks) ≡ true → Either item (item_leaves item s ranges marks)
-  by_item (Decoded e) on =
-      by_fault e on (fault_alone (lengths_of s) s.events e) (is_no_verdict (fault_alone (lengths_of s) s.events e)) refl
-  by_item UnknownKind on = refusing _ refl
-  by_item WrongBodyLength on = refusing _ refl
-  by_item FieldNotAllowed on = refusing _ refl
+  by_item (Ok e) on = by_fault e on (fault_alone s.lengths s.events e)
+  by_item (Err undecoded) on = refusing _ refl
 
   either : (item : Item) → Either item (step_of item s ranges marks)
   unfolding step_of
@@ -120,9 +101,9 @@ module _ (s : State) (ranges marks : List ℕ) where
 
   -- an event that passes leaves the state without a refusal
   still-none : (p : Part) → goes_on s (length ranges) (length marks) ≡ true → refuses (passing p) ≡ false
-  still-none p on = ap not (by_part_refusal p ∙ ap (λ c. is_zero c) (going s (length ranges) (length marks) on).none_refused)
+  still-none p on = by_part_refusal p ∙ ap is_some (going s (length ranges) (length marks) on).none_refused
     where
-      by_part_refusal : (q : Part) → is_no_verdict (passing q).state.refusal ≡ is_no_verdict s.refusal
+      by_part_refusal : (q : Part) → refuses (passing q) ≡ is_some s.refusal
       by_part_refusal (part.Access r) = refl
       by_part_refusal (part.Operation r) = refl
       by_part_refusal (part.Commit made) = refl
@@ -153,10 +134,10 @@ module _ (s : State) (ranges marks : List ℕ) where
   part_unchanged BulkCommit h k = (refl, refl)
   part_unchanged (BulkWait n) h k = absurd (k waited.bulk_wait)
 
-  none-changed : (e : Event) → is_operation e ≡ false → ¬ MayAdd e → Unchanged ranges marks (step_of (Decoded e) s ranges marks)
-  none-changed e h k = by_way (either (Decoded e))
+  none-changed : (e : Event) → is_operation e ≡ false → ¬ MayAdd e → Unchanged ranges marks (step_of (Ok e) s ranges marks)
+  none-changed e h k = by_way (either (Ok e))
     where
-      by_way : {after : After} → Either (Decoded e) after → Unchanged ranges marks after
+      by_way : {after : After} → Either (Ok e) after → Unchanged ranges marks after
       by_way (refusing s' r) = (refl, refl)
       by_way (passes on) = part_unchanged e h k
 
@@ -166,12 +147,12 @@ module _ (s : State) (ranges marks : List ℕ) where
       (r : Record) × (part_of s.events s.made e ≡ part.Operation r)
       × (after.ranges ≡ sets ranges (4 * s.unclosed) (range_words r)) × (after.marks ≡ sets marks (4 * s.unclosed) (mark_words r))
 
-  record_put : (e : Event) → is_operation e ≡ true → refuses (step_of (Decoded e) s ranges marks) ≡ false
-      → PutsRecord e (step_of (Decoded e) s ranges marks)
-  record_put e h = by_way (either (Decoded e))
+  record_put : (e : Event) → is_operation e ≡ true → refuses (step_of (Ok e) s ranges marks) ≡ false
+      → PutsRecord e (step_of (Ok e) s ranges marks)
+  record_put e h = by_way (either (Ok e))
     where
-      by_way : {after : After} → Either (Decoded e) after → refuses after ≡ false → PutsRecord e after
-      by_way (refusing s' r) k = absurd (true≢false (sym (ap not r) ∙ k))
+      by_way : {after : After} → Either (Ok e) after → refuses after ≡ false → PutsRecord e after
+      by_way (refusing s' r) k = absurd (true≢false (sym r ∙ k))
       by_way (passes on) k =
           let start = starts s.events s.made e h in
           (start.its, start.part_is, ap (λ p. (passing p).ranges) start.part_is, ap (λ p. (passing p).marks) start.part_is)
@@ -187,12 +168,12 @@ module _ (s : State) (ranges marks : List ℕ) where
   wait-keeps waited.wait_all = (_, _, refl, refl, refl)
   wait-keeps waited.bulk_wait = (_, _, refl, refl, refl)
 
-  records-kept : (e : Event) → MayAdd e → refuses (step_of (Decoded e) s ranges marks) ≡ false
-      → KeepsRecords e (step_of (Decoded e) s ranges marks)
-  records-kept e h = by_way (either (Decoded e))
+  records-kept : (e : Event) → MayAdd e → refuses (step_of (Ok e) s ranges marks) ≡ false
+      → KeepsRecords e (step_of (Ok e) s ranges marks)
+  records-kept e h = by_way (either (Ok e))
     where
-      by_way : {after : After} → Either (Decoded e) after → refuses after ≡ false → KeepsRecords e after
-      by_way (refusing s' r) k = absurd (true≢false (sym (ap not r) ∙ k))
+      by_way : {after : After} → Either (Ok e) after → refuses after ≡ false → KeepsRecords e after
+      by_way (refusing s' r) k = absurd (true≢false (sym r ∙ k))
       by_way (passes on) k = wait-keeps h
 
   -- ---- the words past the stated length
@@ -212,7 +193,7 @@ module _ (s : State) (ranges marks : List ℕ) where
       let known = going s (length ranges) (length marks) on in
       let rs = kept wait (records s.unclosed ranges marks) in
       let few : 4 * length rs ≤ place_length =
-      omega (arith, kept-fewer wait (records s.unclosed ranges marks), length-records s.unclosed ranges marks) in
+      omega (arith, length-filter (stays_open wait) (records s.unclosed ranges marks), count_by-le-length (stays_open wait) (records s.unclosed ranges marks), length-records s.unclosed ranges marks) in
       (past-stays range_words four-ranges rs ranges place_length few, past-stays mark_words four-marks rs marks place_length few)
 
   past_unchanged : (item : Item) → PastStays (step_of item s ranges marks)
@@ -224,7 +205,7 @@ module _ (s : State) (ranges marks : List ℕ) where
 
 -- ---- one record for each open operation
 one_each : (lengths : Lengths) (es : List Event) (s : State) (ranges marks : List ℕ)
-    → AsLeft lengths (map Decoded es) s ranges marks → IsAccepted (answer_of_events lengths es)
+    → AsLeft lengths (map Ok es) s ranges marks → IsAccepted (answer_of_events lengths es)
     → (s.unclosed ≡ open_after es (length es)) × (records s.unclosed ranges marks ≡ open_at es)
 one_each lengths es s ranges marks left h =
     let count = ap (λ (t : State). t.unclosed) (left.state_is ∙ state_tracks lengths es h) in

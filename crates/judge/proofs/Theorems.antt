@@ -2,24 +2,24 @@
 -- Assumes nothing.
 use native.Mathlib.Omega.{arith}
 use mathlib.Core.Path.{◌≡◌, refl, sym, ap, subst, ◌∙◌}
-use mathlib.Core.Bool.{Bool, true, false, cond}
+use mathlib.Core.Bool.{Bool, true, false, cond, false≢true}
 use mathlib.Core.List.{List, [], ◌∷◌, ◌++◌, append-nil, append_assoc}
-use lib.Dec.{leb}
 use borrow.Author.Tests.{leb-true}
-use Rattle.answer.specs.Codes.{is_no_verdict, code_of, IsAccepted}
+use Rattle.answer.specs.Codes.{code_of, IsAccepted}
+use Rattle.std.specs.Prelude.{Option, None, Some, IsSome}
 use Rattle.little_endian.proofs.Tests.{both}
 use Rattle.answer.specs.declared.Answer.{Answer}
 use Rattle.answer.specs.declared.Answer.TheVariants as answer
 use Rattle.answer.specs.Numbers.{numbers_of}
 use Rattle.answer.specs.Table.{fit}
 use Rattle.answer.proofs.Given.{fits-given}
-use Rattle.decoder.specs.declared.Item.{Item}
-use Rattle.rules.specs.Faults.{Lengths}
+use Rattle.rules.specs.declared.Lengths.{Lengths}
+use Rattle.decoder.specs.Item.{Item}
 use Rattle.rules.specs.Answers.{answer_of}
 use Rattle.rules.proofs.Files.{answer-recorded}
 use Rattle.judge.specs.declared.State.{State}
 use Rattle.judge.specs.AsLeft.{AsLeft}
-use Rattle.judge.specs.Step.{is_refusal, is_sound, opened, answer_in, counted, After, leaving, step_of}
+use Rattle.judge.specs.Step.{is_refusal, is_sound, opened, answer_by, answer_in, counted, After, leaving, step_of}
 use Rattle.judge.specs.Beginnings.{answer_of_beginning}
 use Rattle.judge.specs.Theorems.{steps, StepsAnswer, StepsAnswerFiles, BeginningAnswers, GivenOfBeginnings, PlacesFit, AnyStateAnswers, FaultsShow, without, LostRefusalsShow}
 use Rattle.judge.proofs.Sound.{counted-refusal}
@@ -70,26 +70,25 @@ any_state_answers s = (told s (answer_in s) refl).1.1
 
 -- a refusal that is held, or a wrong shape, is no acceptance
 not-one : (a : Answer) (kept : Bool) → is_refusal a ≡ kept → ¬ IsAccepted (cond kept a answer.WrongShape)
-not-one a true h e = omega (arith, leb-true 2 (code_of a) (both (leb 2 (code_of a)) (fit (numbers_of a)) h).0, e)
+not-one a true h e = omega (arith, leb-true _ (code_of a) (both _ (fit (numbers_of a)) h).0, e)
 not-one a false h e = omega (arith, e)
 
 not_sound : (s : State) → is_sound s ≡ false → ¬ IsAccepted (answer_in s)
 unfolding answer_in
-not_sound s h = by_refusal (is_no_verdict s.refusal)
+not_sound s h = by_refusal s.refusal
   where
-    by_refusal : (t : Bool)
-        → ¬ IsAccepted (cond t (cond (is_sound s) (answer.Accepted s.events s.peak) answer.WrongShape)
-        (cond (is_refusal s.refusal) s.refusal answer.WrongShape))
-    by_refusal true e = omega (arith, sym (ap (λ t. code_of (cond t (answer.Accepted s.events s.peak) answer.WrongShape)) h) ∙ e)
-    by_refusal false e = not-one s.refusal (is_refusal s.refusal) refl e
+    by_refusal : (o : Option Answer) → ¬ IsAccepted (answer_by o s)
+    by_refusal None e = omega (arith, sym (ap (λ t. code_of (cond t (answer.Accepted s.events s.peak) answer.WrongShape)) h) ∙ e)
+    by_refusal (Some refusal) e = not-one refusal (is_refusal refusal) refl e
 
 -- after a refusal nothing is accepted
-some-refused : (s : State) → is_no_verdict s.refusal ≡ false → ¬ IsAccepted (answer_in s)
+some-refused : (s : State) → IsSome s.refusal → ¬ IsAccepted (answer_in s)
 unfolding answer_in
-some-refused s h e =
-    not-one s.refusal (is_refusal s.refusal) refl
-    (sym (ap (λ t. code_of (cond t (cond (is_sound s) (answer.Accepted s.events s.peak) answer.WrongShape)
-    (cond (is_refusal s.refusal) s.refusal answer.WrongShape))) h) ∙ e)
+some-refused s = by_refusal s.refusal
+  where
+    by_refusal : (o : Option Answer) → IsSome o → ¬ IsAccepted (answer_by o s)
+    by_refusal None h e = absurd (false≢true h)
+    by_refusal (Some refusal) h e = not-one refusal (is_refusal refusal) refl e
 
 -- one open and a peak of 0
 odd : (s : State) → s.unclosed ≡ 1 → s.peak ≡ 0 → is_sound s ≡ false

@@ -6,7 +6,7 @@ use mathlib.Core.Path.{◌≡◌, refl, sym}
 use mathlib.Core.Logic.Iff
 use mathlib.Core.Bool.{Bool, true, false, not, cond, ◌&&◌, ◌||◌, and-true, and-false, or-false, or_comm, not-and_self}
 use mathlib.Core.List.{List, [], ◌∷◌}
-use mathlib.Core.Option.{Option, none, some}
+use Rattle.std.specs.Prelude.{Option, None, Some}
 use lib.Dec.{eqb}
 use borrow.Author.Tests.{eqb-true, eqb-false, eq-eqb, ne_eqb, le-ltb}
 use Rattle.event.specs.declared.Address.TheVariants as address
@@ -35,10 +35,10 @@ use Rattle.rules.specs.Tests.{same_space, meet, some_meet, reduction_with, same_
 
 -- The record of an event that reads or writes.
 abbrev pub touch_in : Part → Option Record
-touch_in (part.Access r) = some r
-touch_in (part.Operation r) = some r
-touch_in (part.Commit made) = none
-touch_in (part.Wait made wait) = none
+touch_in (part.Access r) = Some r
+touch_in (part.Operation r) = Some r
+touch_in (part.Commit made) = None
+touch_in (part.Wait made wait) = None
 
 -- ---- which accesses meet
 -- an access of no byte meets none
@@ -163,8 +163,8 @@ same-clash {event} {operation} (tells space written number two) (tells space' wr
 
 -- an event has such a record, or no access
 abbrev Described : Option Record → Event → Type 0
-Described none e = accesses e ≡ []
-Described (some r) e = Describes r e
+Described None e = accesses e ≡ []
+Described (Some r) e = Describes r e
 
 module _ (n : ℕ) (made : GroupsMade) where
   described : (e : Event) → Described (touch_in (part_of n made e)) e
@@ -187,13 +187,13 @@ module _ (n : ℕ) (made : GroupsMade) where
 -- ---- the laws
 -- the record of an operation clashes with that of an event just if the two events collide
 pub clash-collide : (i : ℕ) (made : GroupsMade) (o : Event) (operation : Record) → part_of i made o ≡ part.Operation operation
-    → (n : ℕ) (made' : GroupsMade) (e : Event) (event : Record) → touch_in (part_of n made' e) ≡ some event
+    → (n : ℕ) (made' : GroupsMade) (e : Event) (event : Record) → touch_in (part_of n made' e) ≡ Some event
     → clash_of event operation ≡ collide o e
 clash-collide i made o operation p n made' e event q =
     same-clash (rw q at (described n made' e)) (rw p at (described i made o))
 
 -- an event with no record collides with none
-pub no_touch : (n : ℕ) (made : GroupsMade) (o e : Event) → touch_in (part_of n made e) ≡ none → collide o e ≡ false
+pub no_touch : (n : ℕ) (made : GroupsMade) (o e : Event) → touch_in (part_of n made e) ≡ None → collide o e ≡ false
 no_touch n made o e h =
     let silent : accesses e ≡ [] = rw h at (described n made e) in
     rw (silent, any_of_none (λ x. false) (λ x. refl) (accesses o), and-false)

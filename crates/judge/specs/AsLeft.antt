@@ -1,14 +1,12 @@
 -- A state and two places as the judge leaves them after a list of items: every number of the state, and the words that stand
 -- first in the places. That this is right need not be believed: the opening state and places of any contents are so for the
 -- empty list, a step carries it on, and the answer of such a state is that of the rules; by theorem `StepsAnswer` it drops out.
-use Rattle.std.specs.Prelude.{ℕ, zero, suc, ◌*◌, ◌≤◌, min, ◌≡◌, cond, List, [], ◌∷◌, ◌++◌, length}
+use Rattle.std.specs.Prelude.{ℕ, zero, suc, ◌*◌, ◌≤◌, min, ◌≡◌, cond, List, [], ◌∷◌, ◌++◌, length, None, Some, Ok, Err}
 use Rattle.answer.specs.declared.Answer.{Answer}
-use Rattle.answer.specs.declared.Answer.TheVariants.{NoVerdict}
 use Rattle.answer.specs.Table.{event_limit}
 use Rattle.answer.specs.Codes.{is_accepted}
 use Rattle.event.specs.declared.Event.{Event}
-use Rattle.decoder.specs.declared.Item.{Item}
-use Rattle.decoder.specs.declared.Item.TheVariants.{Decoded, UnknownKind, WrongBodyLength, FieldNotAllowed}
+use Rattle.decoder.specs.Item.{Item}
 use Rattle.operations.specs.declared.Record.{Record}
 use Rattle.operations.specs.Table.{range_words, mark_words, placed}
 use Rattle.parts.specs.declared.GroupsMade.{GroupsMade}
@@ -16,7 +14,7 @@ use Rattle.parts.specs.declared.Part.{Part}
 use Rattle.parts.specs.declared.Part.TheVariants.{Access, Operation, Commit, Wait}
 use Rattle.parts.specs.Parts.{part_of}
 use Rattle.rules.specs.Events.{event_at}
-use Rattle.rules.specs.Faults.{Lengths}
+use Rattle.rules.specs.declared.Lengths.{Lengths}
 use Rattle.rules.specs.Closing.{NonBulk, Bulk, groups, is_open}
 use Rattle.rules.specs.Peak.{open_after, peak}
 use Rattle.rules.specs.Answers.{answer_of}
@@ -52,9 +50,8 @@ tracking lengths es = record {
   peak = peak es (length es);
   unclosed = open_after es (length es);
   made = made_by es (length es);
-  global = lengths.global;
-  shared = lengths.shared;
-  refusal = NoVerdict;
+  lengths = lengths;
+  refusal = None;
 }
 
 -- After a refusal, of so many events: they are counted, and nothing is kept of them. More is open than peak, as it never is while
@@ -65,17 +62,14 @@ ended lengths events refusal = record {
   peak = 0;
   unclosed = 1;
   made = record { copies = 0; bulk = 0 };
-  global = lengths.global;
-  shared = lengths.shared;
-  refusal = refusal;
+  lengths = lengths;
+  refusal = Some refusal;
 }
 
 abbrev pub events_of : List Item → List Event
 events_of [] = []
-events_of (Decoded e ∷ items) = e ∷ events_of items
-events_of (UnknownKind ∷ items) = events_of items
-events_of (WrongBodyLength ∷ items) = events_of items
-events_of (FieldNotAllowed ∷ items) = events_of items
+events_of (Ok e ∷ items) = e ∷ events_of items
+events_of (Err undecoded ∷ items) = events_of items
 
 -- The state after a list. Past the limit it counts no further.
 unfoldable pub state_of : Lengths → List Item → State

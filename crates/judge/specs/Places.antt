@@ -1,12 +1,11 @@
 -- What a step does to the words of the two places, whatever the state and their words. Each statement is a type; proofs/Places.antt
 -- proves it, as `words_past_stay : WordsPastStay`.
-use Rattle.std.specs.Prelude.{ℕ, ◌*◌, ◌≡◌, Bool, true, false, not, List, map, length, drop}
+use Rattle.std.specs.Prelude.{ℕ, ◌*◌, ◌≡◌, Bool, true, false, is_some, List, map, length, drop, Ok}
 use Rattle.std.proofs.lemmas.List.Edits.{sets}
-use Rattle.answer.specs.Codes.{IsAccepted, is_no_verdict}
+use Rattle.answer.specs.Codes.{IsAccepted}
 use Rattle.rules.specs.Answers.{answer_of_events}
 use Rattle.event.specs.declared.Event.{Event}
-use Rattle.decoder.specs.declared.Item.{Item}
-use Rattle.decoder.specs.declared.Item.TheVariants.{Decoded}
+use Rattle.decoder.specs.Item.{Item}
 use Rattle.operations.specs.declared.Record.{Record}
 use Rattle.operations.specs.declared.Wait as operations
 use Rattle.operations.specs.Table.{range_words, mark_words, records, placed}
@@ -15,7 +14,7 @@ use Rattle.parts.specs.declared.GroupsMade.{GroupsMade}
 use Rattle.parts.specs.declared.Part.TheVariants as part
 use Rattle.parts.specs.Parts.{part_of}
 use Rattle.rules.specs.Closing.{is_operation}
-use Rattle.rules.specs.Faults.{Lengths}
+use Rattle.rules.specs.declared.Lengths.{Lengths}
 use Rattle.rules.specs.Peak.{open_after}
 use Rattle.rules.specs.Waited.{MayAdd}
 use Rattle.judge.specs.declared.State.{State}
@@ -28,7 +27,7 @@ Unchanged ranges marks after = (after.ranges ≡ ranges) × (after.marks ≡ mar
 
 -- A refusal stands when the step is done.
 abbrev pub refuses : After → Bool
-refuses after = not (is_no_verdict after.state.refusal)
+refuses after = is_some after.state.refusal
 
 -- A refused event changes none, nor does one that comes after a refusal or is not judged ..
 unfoldable pub RefusalsChangeNone : Type 0
@@ -40,23 +39,23 @@ RefusalsChangeNone =
 unfoldable pub AccessesAndCommitsChangeNone : Type 0
 AccessesAndCommitsChangeNone =
     (e : Event) (s : State) (ranges marks : List ℕ) → is_operation e ≡ false → ¬ MayAdd e
-    → Unchanged ranges marks (step_of (Decoded e) s ranges marks)
+    → Unchanged ranges marks (step_of (Ok e) s ranges marks)
 
 -- .. an operation changes the words of its own record alone, behind those of the open operations ..
 unfoldable pub OperationsChangeTheirRecord : Type 0
 OperationsChangeTheirRecord =
-    (e : Event) (s : State) (ranges marks : List ℕ) → is_operation e ≡ true → refuses (step_of (Decoded e) s ranges marks) ≡ false
+    (e : Event) (s : State) (ranges marks : List ℕ) → is_operation e ≡ true → refuses (step_of (Ok e) s ranges marks) ≡ false
     → (r : Record) × (part_of s.events s.made e ≡ part.Operation r)
-    × ((step_of (Decoded e) s ranges marks).ranges ≡ sets ranges (4 * s.unclosed) (range_words r))
-    × ((step_of (Decoded e) s ranges marks).marks ≡ sets marks (4 * s.unclosed) (mark_words r))
+    × ((step_of (Ok e) s ranges marks).ranges ≡ sets ranges (4 * s.unclosed) (range_words r))
+    × ((step_of (Ok e) s ranges marks).marks ≡ sets marks (4 * s.unclosed) (mark_words r))
 
 -- .. a wait puts the kept records first, in order, and leaves the words past them ..
 unfoldable pub WaitsKeepRecords : Type 0
 WaitsKeepRecords =
-    (e : Event) (s : State) (ranges marks : List ℕ) → MayAdd e → refuses (step_of (Decoded e) s ranges marks) ≡ false
+    (e : Event) (s : State) (ranges marks : List ℕ) → MayAdd e → refuses (step_of (Ok e) s ranges marks) ≡ false
     → (made : GroupsMade) × (wait : operations.Wait) × (part_of s.events s.made e ≡ part.Wait made wait)
-    × ((step_of (Decoded e) s ranges marks).ranges ≡ placed range_words (kept wait (records s.unclosed ranges marks)) ranges)
-    × ((step_of (Decoded e) s ranges marks).marks ≡ placed mark_words (kept wait (records s.unclosed ranges marks)) marks)
+    × ((step_of (Ok e) s ranges marks).ranges ≡ placed range_words (kept wait (records s.unclosed ranges marks)) ranges)
+    × ((step_of (Ok e) s ranges marks).marks ≡ placed mark_words (kept wait (records s.unclosed ranges marks)) marks)
 
 -- .. and the words past the stated length stay.
 unfoldable pub WordsPastStay : Type 0
@@ -69,5 +68,5 @@ WordsPastStay =
 unfoldable pub OneRecordEach : Type 0
 OneRecordEach =
     (lengths : Lengths) (es : List Event) (s : State) (ranges marks : List ℕ)
-    → AsLeft lengths (map Decoded es) s ranges marks → IsAccepted (answer_of_events lengths es)
+    → AsLeft lengths (map Ok es) s ranges marks → IsAccepted (answer_of_events lengths es)
     → (s.unclosed ≡ open_after es (length es)) × (records s.unclosed ranges marks ≡ open_records es (length es) (length es))

@@ -1,19 +1,17 @@
 -- What the functions of a state do with any state and any places, those that no judge leaves among them: one outcome each.
-use Rattle.std.specs.Prelude.{ℕ, suc, ◌+◌, ◌*◌, max, ◌≡◌, Bool, cond, ◌&&◌, List, [], leb, ltb, length}
+use Rattle.std.specs.Prelude.{ℕ, suc, ◌+◌, ◌*◌, max, ◌≡◌, Bool, cond, ◌&&◌, List, [], leb, ltb, length, Option, None, Some, is_none, Ok, Err}
+use Rattle.std.specs.Option.{unwrap_or}
 use Rattle.std.proofs.lemmas.List.Edits.{sets}
 use Rattle.answer.specs.declared.Answer.{Answer}
 use Rattle.answer.specs.declared.Answer.TheVariants as answer
 use Rattle.answer.specs.Numbers.{numbers_of}
 use Rattle.answer.specs.Table.{event_limit, fit}
-use Rattle.answer.specs.Codes.{code_of, is_no_verdict}
+use Rattle.answer.specs.Codes.{code_of}
 use Rattle.event.specs.declared.Event.{Event}
-use Rattle.decoder.specs.declared.Item.{Item}
-use Rattle.decoder.specs.declared.Item.TheVariants.{Decoded, UnknownKind, WrongBodyLength, FieldNotAllowed}
+use Rattle.decoder.specs.Item.{Item}
 use Rattle.decoder.specs.Kinds.{refusal_of}
-use Rattle.trace.specs.File.{is_memory_length}
 use Rattle.checks.specs.Faults.{fault_alone}
-use Rattle.operations.specs.declared.Partner.{Partner}
-use Rattle.operations.specs.declared.Partner.TheVariants as partner
+use Rattle.operations.specs.declared.Record.{Record}
 use Rattle.operations.specs.Table.{range_words, mark_words, records, placed}
 use Rattle.operations.specs.Clash.{first_clash}
 use Rattle.operations.specs.Waiting.{kept}
@@ -21,7 +19,8 @@ use Rattle.parts.specs.declared.GroupsMade.{GroupsMade}
 use Rattle.parts.specs.declared.Part.{Part}
 use Rattle.parts.specs.declared.Part.TheVariants.{Access, Operation, Commit, Wait}
 use Rattle.parts.specs.Parts.{part_of}
-use Rattle.rules.specs.Faults.{Lengths, are_memory_lengths}
+use Rattle.rules.specs.declared.Lengths.{Lengths}
+use Rattle.rules.specs.Faults.{are_memory_lengths}
 use Rattle.judge.specs.declared.State.{State}
 use Rattle.judge.specs.AsLeft.{place_length, tracking, ended, AsLeft, Carried}
 
@@ -41,16 +40,17 @@ is_sound s =
     && leb s.events event_limit
     && leb s.made.copies s.events
     && leb s.made.bulk s.events
-    && is_memory_length s.global
-    && is_memory_length s.shared
+    && are_memory_lengths s.lengths
 
--- The answer that a state tells: acceptance where nothing is refused and its numbers are sound, the refusal that it holds
--- where that is one, and otherwise that its shape is wrong (2).
+-- The answer of a state that holds this for a refusal: acceptance where it holds none and its numbers are sound, the refusal
+-- where it is one, and otherwise that its shape is wrong (2).
+abbrev pub answer_by : Option Answer → State → Answer
+answer_by None s = cond (is_sound s) (answer.Accepted s.events s.peak) answer.WrongShape
+answer_by (Some refusal) s = cond (is_refusal refusal) refusal answer.WrongShape
+
+-- The answer that a state tells.
 unfoldable pub answer_in : State → Answer
-answer_in s =
-    cond (is_no_verdict s.refusal)
-    (cond (is_sound s) (answer.Accepted s.events s.peak) answer.WrongShape)
-    (cond (is_refusal s.refusal) s.refusal answer.WrongShape)
+answer_in s = answer_by s.refusal s
 
 -- ---- A step.
 
@@ -63,72 +63,76 @@ pub record After : Type 0 where
 abbrev pub leaving : State → List ℕ → List ℕ → After
 leaving s ranges marks = record { state = s; ranges = ranges; marks = marks }
 
-abbrev pub lengths_of : State → Lengths
-lengths_of s = record { global = s.global; shared = s.shared }
-
 -- The event is judged where nothing is refused, the numbers are sound, one event more is within the limit, and the places,
 -- of so many words, are long enough.
 unfoldable pub goes_on : State → ℕ → ℕ → Bool
 goes_on s ranges marks =
-    is_no_verdict s.refusal && is_sound s && ltb s.events event_limit && leb place_length ranges && leb place_length marks
+    is_none s.refusal && is_sound s && ltb s.events event_limit && leb place_length ranges && leb place_length marks
 
 -- Otherwise it is counted. Past the limit there are too many (3); a state that has refused nothing and is not sound, or whose
 -- places are too short, has a wrong shape (2).
 unfoldable pub counted : State → State
 counted s =
     cond (ltb s.events event_limit)
-    (ended (lengths_of s) (s.events + 1) (cond (is_no_verdict s.refusal) answer.WrongShape s.refusal))
-    (ended (lengths_of s) (suc event_limit) answer.TooManyEvents)
+    (ended s.lengths (s.events + 1) (unwrap_or s.refusal answer.WrongShape))
+    (ended s.lengths (suc event_limit) answer.TooManyEvents)
 
 -- After a refused event; after one that passes, with so many operations open and these groups made.
 abbrev pub refused_by : State → Answer → State
-refused_by s refusal = ended (lengths_of s) (s.events + 1) refusal
+refused_by s refusal = ended s.lengths (s.events + 1) refusal
 
 abbrev pub passed_to : State → ℕ → GroupsMade → State
-passed_to s unclosed made = record {
+passed_to s unclosed made = record s {
   events = s.events + 1;
   peak = max s.peak unclosed;
   unclosed = unclosed;
   made = made;
-  global = s.global;
-  shared = s.shared;
-  refusal = s.refusal;
 }
 
--- A clash is refused, and changes no word.
-abbrev pub or_clash : Partner → State → List ℕ → List ℕ → After → After
-or_clash (partner.Event i) s ranges marks passed = leaving (refused_by s (answer.Clash s.events i)) ranges marks
-or_clash partner.Nobody s ranges marks passed = passed
+-- The earlier event that an event without fault clashes with: a load, a store or an operation, with an open operation.
+abbrev pub clash_in : Part → List Record → Option ℕ
+clash_in (Access r) open_operations = first_clash r open_operations
+clash_in (Operation r) open_operations = first_clash r open_operations
+clash_in (Commit made) open_operations = None
+clash_in (Wait made wait) open_operations = None
 
--- An event without fault. A load, a store and a commit change no word; an operation changes those of its own record alone; a
--- wait puts the kept records first and leaves the words past them.
-abbrev pub left_by : Part → State → List ℕ → List ℕ → After
-left_by (Access r) s ranges marks =
-    or_clash (first_clash r (records s.unclosed ranges marks)) s ranges marks
-    (leaving (passed_to s s.unclosed s.made) ranges marks)
-left_by (Operation r) s ranges marks =
-    or_clash (first_clash r (records s.unclosed ranges marks)) s ranges marks
-    (leaving (passed_to s (s.unclosed + 1) s.made) (sets ranges (4 * s.unclosed) (range_words r))
-    (sets marks (4 * s.unclosed) (mark_words r)))
-left_by (Commit made) s ranges marks = leaving (passed_to s s.unclosed made) ranges marks
-left_by (Wait made wait) s ranges marks =
+-- A clash is refused, and changes no word.
+abbrev pub or_clash : Option ℕ → State → List ℕ → List ℕ → After → After
+or_clash (Some i) s ranges marks passed = leaving (refused_by s (answer.Clash s.events i)) ranges marks
+or_clash None s ranges marks passed = passed
+
+-- Where it clashes with none: a load, a store and a commit change no word; an operation changes those of its own record alone;
+-- a wait puts the kept records first and leaves the words past them.
+abbrev pub passed_by : Part → State → List ℕ → List ℕ → After
+passed_by (Access r) s ranges marks = leaving (passed_to s s.unclosed s.made) ranges marks
+passed_by (Operation r) s ranges marks =
+    leaving (passed_to s (s.unclosed + 1) s.made) (sets ranges (4 * s.unclosed) (range_words r))
+    (sets marks (4 * s.unclosed) (mark_words r))
+passed_by (Commit made) s ranges marks = leaving (passed_to s s.unclosed made) ranges marks
+passed_by (Wait made wait) s ranges marks =
     leaving (passed_to s (length (kept wait (records s.unclosed ranges marks))) made)
     (placed range_words (kept wait (records s.unclosed ranges marks)) ranges)
     (placed mark_words (kept wait (records s.unclosed ranges marks)) marks)
 
+-- An event without fault.
+abbrev pub left_by : Part → State → List ℕ → List ℕ → After
+left_by p s ranges marks =
+    or_clash (clash_in p (records s.unclosed ranges marks)) s ranges marks (passed_by p s ranges marks)
+
 -- A fault of the event's own (7 to 9) is refused, and changes no word.
+abbrev pub or_fault : Option Answer → State → List ℕ → List ℕ → After → After
+or_fault (Some fault) s ranges marks passed = leaving (refused_by s fault) ranges marks
+or_fault None s ranges marks passed = passed
+
 abbrev pub event_leaves : Event → State → List ℕ → List ℕ → After
 event_leaves e s ranges marks =
-    cond (is_no_verdict (fault_alone (lengths_of s) s.events e))
+    or_fault (fault_alone s.lengths s.events e) s ranges marks
     (left_by (part_of s.events s.made e) s ranges marks)
-    (leaving (refused_by s (fault_alone (lengths_of s) s.events e)) ranges marks)
 
 -- So is what does not decode (5 to 7).
 abbrev pub item_leaves : Item → State → List ℕ → List ℕ → After
-item_leaves (Decoded e) s ranges marks = event_leaves e s ranges marks
-item_leaves UnknownKind s ranges marks = leaving (refused_by s (refusal_of s.events UnknownKind)) ranges marks
-item_leaves WrongBodyLength s ranges marks = leaving (refused_by s (refusal_of s.events WrongBodyLength)) ranges marks
-item_leaves FieldNotAllowed s ranges marks = leaving (refused_by s (refusal_of s.events FieldNotAllowed)) ranges marks
+item_leaves (Ok e) s ranges marks = event_leaves e s ranges marks
+item_leaves (Err undecoded) s ranges marks = leaving (refused_by s (refusal_of s.events (Err undecoded))) ranges marks
 
 unfoldable pub step_of : Item → State → List ℕ → List ℕ → After
 step_of item s ranges marks =

@@ -1,12 +1,11 @@
 -- What holds of the judge. Each statement is a type; proofs/Theorems.antt proves it, as `steps_answer : StepsAnswer`.
-use Rattle.std.specs.Prelude.{ℕ, ◌*◌, ◌≤◌, ◌≡◌, false, List, [], ◌∷◌, length, take}
-use Rattle.answer.specs.Codes.{IsAccepted, is_no_verdict}
+use Rattle.std.specs.Prelude.{ℕ, ◌*◌, ◌≤◌, ◌≡◌, false, List, [], ◌∷◌, length, take, None, IsSome}
+use Rattle.answer.specs.Codes.{IsAccepted}
 use Rattle.answer.specs.Sheet.{Given}
-use Rattle.answer.specs.declared.Answer.TheVariants.{NoVerdict}
 use Rattle.answer.specs.Table.{event_limit}
-use Rattle.decoder.specs.declared.Item.{Item}
+use Rattle.decoder.specs.Item.{Item}
 use Rattle.trace.specs.Beginning.{enough}
-use Rattle.rules.specs.Faults.{Lengths}
+use Rattle.rules.specs.declared.Lengths.{Lengths}
 use Rattle.rules.specs.Answers.{answer_of, answer_of_file, Records}
 use Rattle.judge.specs.declared.State.{State}
 use Rattle.judge.specs.AsLeft.{place_length, AsLeft}
@@ -62,21 +61,13 @@ AnyStateAnswers = (s : State) → Given (answer_in s)
 unfoldable pub FaultsShow : Type 0
 FaultsShow =
     ((s : State) → is_sound s ≡ false → ¬ IsAccepted (answer_in s))
-    × ((s : State) → is_no_verdict s.refusal ≡ false → ¬ IsAccepted (answer_in s))
+    × ((s : State) → IsSome s.refusal → ¬ IsAccepted (answer_in s))
     × ((item : Item) (s : State) (ranges marks : List ℕ) → goes_on s (length ranges) (length marks) ≡ false
     → ¬ IsAccepted (answer_in (step_of item s ranges marks).state))
 
 -- The state without what it holds for a refusal.
 abbrev pub without : State → State
-without s = record {
-  events = s.events;
-  peak = s.peak;
-  unclosed = s.unclosed;
-  made = s.made;
-  global = s.global;
-  shared = s.shared;
-  refusal = NoVerdict;
-}
+without s = record s { refusal = None }
 
 -- A state that the judge left after a refusal, and whose refusal got lost, is not accepted.
 unfoldable pub LostRefusalsShow : Type 0

@@ -1,9 +1,9 @@
 // The opening state, and the answer that a state tells.
 ghost use Rattle.std.specs.Prelude.{◌≡◌, List, [], ℕ, ◌≤◌, length};
 ghost use Rattle.answer.specs.Sheet.{Given};
-ghost use Rattle.answer.specs.Codes.{is_no_verdict};
-ghost use Rattle.decoder.specs.declared.Item.{Item};
-ghost use Rattle.rules.specs.Faults.{Lengths};
+ghost use Rattle.rules.specs.declared.Lengths.{Lengths};
+ghost use Rattle.rules.specs.Faults.{are_memory_lengths};
+ghost use Rattle.decoder.specs.Item.{Item};
 ghost use Rattle.rules.specs.Answers.{answer_of};
 ghost use Rattle.judge.specs.AsLeft.{place_length, AsLeft};
 ghost use Rattle.judge.specs.Step.{is_refusal, is_sound, opened, answer_in};
@@ -11,24 +11,26 @@ ghost use Rattle.judge.specs.Step.{is_refusal, is_sound, opened, answer_in};
 use crate::State;
 use answer::{Answer, EVENT_LIMIT};
 use parts::GroupsMade;
+use rules::Lengths;
 use trace::MEMORY_LIMIT;
 
 impl State {
-    // The state before the first event of a list under these memory lengths. Places of any contents go with it.
+    // The state before the first event of a list under these memory lengths, two numbers as README has them. Places of any
+    // contents go with it.
     pub fn opening(global: u32, shared: u32) -> State
         ensures value { result ≡ opened (record { global = global; shared = shared }) }
         ensures as_left { (ranges marks : List ℕ) → place_length ≤ length ranges → place_length ≤ length marks → AsLeft (record { global = global; shared = shared }) [] result ranges marks }
     {
+        let lengths = Lengths { global, shared };
         let state = State {
             events: 0,
             peak: 0,
             unclosed: 0,
             made: GroupsMade { copies: 0, bulk: 0 },
-            global,
-            shared,
-            refusal: Answer::NoVerdict,
+            lengths,
+            refusal: None,
         };
-        if (global <= MEMORY_LIMIT) & (shared <= MEMORY_LIMIT) {
+        if are_memory_lengths(lengths) {
             state
         } else {
             state.ended(0, Answer::WrongMemoryLength)
@@ -42,24 +44,18 @@ impl State {
         ensures value { result ≡ answer_in self }
         ensures given { Given result }
     {
-        let refusal = self.refusal;
-        if is_no_verdict(refusal) {
-            if self.is_sound() {
-                Answer::Accepted {
-                    events: self.events,
-                    peak: self.peak,
-                }
-            } else {
-                Answer::WrongShape
-            }
-        } else if is_refusal(refusal) {
-            refusal
-        } else {
-            Answer::WrongShape
+        match self.refusal {
+            None if self.is_sound() => Answer::Accepted {
+                events: self.events,
+                peak: self.peak,
+            },
+            Some(refusal) if is_refusal(refusal) => refusal,
+            _ => Answer::WrongShape,
         }
     }
 
     // Whether the numbers keep the bounds that they keep where nothing is refused.
+    #[tactic(auto, unfolding(crate::specs::Step::is_sound))]
     pub(crate) fn is_sound(self) -> bool
         ensures { result ≡ is_sound self }
     {
@@ -68,21 +64,22 @@ impl State {
             & (self.events <= EVENT_LIMIT)
             & (self.made.copies <= self.events)
             & (self.made.bulk <= self.events)
-            & (self.global <= MEMORY_LIMIT)
-            & (self.shared <= MEMORY_LIMIT)
+            & are_memory_lengths(self.lengths)
     }
 }
 
-pub(crate) fn is_no_verdict(answer: Answer) -> bool
-    ensures { result ≡ is_no_verdict answer }
+fn are_memory_lengths(lengths: Lengths) -> bool
+    ensures { result ≡ are_memory_lengths lengths }
 {
-    answer.numbers().code == 0
+    (lengths.global <= MEMORY_LIMIT) & (lengths.shared <= MEMORY_LIMIT)
 }
 
 // Whether it is a refusal that a sheet can hold.
 fn is_refusal(answer: Answer) -> bool
     ensures { result ≡ is_refusal answer }
 {
-    let numbers = answer.numbers();
-    (2 <= numbers.code) & numbers.fit()
+    match answer {
+        Answer::Accepted { .. } => false,
+        _ => answer.numbers().fit(),
+    }
 }

@@ -8,8 +8,9 @@ mod file;
 mod stepping;
 
 use answer::{Answer, EVENT_LIMIT};
-pub use file::{judge, judge_beginning};
+pub use file::{judge, judge_beginning, judge_file};
 use parts::GroupsMade;
+use rules::Lengths;
 
 // The words of each lent place: four for each operation that can be open.
 pub const PLACE_LENGTH: usize = 4 * (EVENT_LIMIT as usize);
@@ -22,8 +23,6 @@ pub struct State {
     pub peak: u32,
     pub unclosed: u32,
     pub made: GroupsMade,
-    pub global: u32,
-    pub shared: u32,
-    // No verdict as long as nothing is refused.
-    pub refusal: Answer,
+    pub lengths: Lengths,
+    pub refusal: Option<Answer>,
 }

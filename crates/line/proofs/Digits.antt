@@ -1,6 +1,7 @@
--- The digits of a number: how many there are, and that they are written from the last on.
+-- The digits of a number: how many there are, and that they are those that std writes.
 -- Assumes nothing.
-use Rattle.std.proofs.Common.{◌≡◌, Bool, true, false, ℕ, zero, suc, ◌+◌, ◌-◌, ◌*◌, ◌/◌, ◌^◌, ◌≤◌, ◌<◌, length, refl, ◌∙◌, arith, length-append}
+use Rattle.std.proofs.Common.{◌≡◌, Bool, true, false, ℕ, zero, suc, ◌+◌, ◌-◌, ◌*◌, ◌/◌, ◌%◌, ◌^◌, ◌≤◌, ◌<◌, List, [], ◌∷◌, ◌++◌, length, decimal, refl, sym, arith, length-append}
+use Rattle.std.proofs.lemmas.Fmt.{AppendsLastDigit, decimal_from_appends, length-decimal-le}
 use Rattle.std.proofs.Math.Nat.{pow-succ'}
 use borrow.Author.Tests.{lt-ltb, le-ltb, ltb-true, ltb-false}
 use lib.Dec.{ltb}
@@ -46,17 +47,6 @@ fewest (suc more) n small = go (ltb n 10) refl (fewest more (n / 10) shorter)
         let one_less : suc p - 1 ≡ p = omega arith in
         rw e (rw (pow-succ' 10 p) (omega (arith, rest.0)), λ several. rw one_less (low p n many rest.1))
 
--- With `left` places left for the digits before the last, a digit more is counted.
-pub counted_more : (left count rest all : ℕ) → count + left ≡ 10 → rest / 10 < 10 ^ left → 10 ≤ rest
-    → count + places left rest ≡ all
-    → (count + 1 ≤ 10) × (rest / 10 / 10 < 10 ^ (left - 1)) × (count + 1 + places (left - 1) (rest / 10) ≡ all)
-counted_more zero count rest all few small large same = absurd (omega arith)
-counted_more (suc left) count rest all few small large same =
-    let lower : rest / 10 / 10 < 10 ^ left = omega (arith, rw (pow-succ' 10 left) at small) in
-    let one_less : suc left - 1 ≡ left = omega arith in
-    let next : count + 1 + places left (rest / 10) ≡ count + places (suc left) rest = rw (places-large left rest large) (omega arith) in
-    (omega arith, rw one_less lower, rw one_less (next ∙ same))
-
 pub length-last_digits : (k n : ℕ) → length (last_digits k n) ≡ k
 length-last_digits zero n = refl
 length-last_digits (suc k) n = rw (length-append, length-last_digits k (n / 10)) (omega arith)
@@ -64,3 +54,28 @@ length-last_digits (suc k) n = rw (length-append, length-last_digits k (n / 10))
 pub length-decimal_of : (n : ℕ) → length (decimal_of n) ≡ places 9 n
 unfolding decimal_of
 length-decimal_of n = length-last_digits (places 9 n) n
+
+-- ---- as std writes them
+
+-- The digits of a number that has at most so many.
+digits_in : ℕ → ℕ → List ℕ
+digits_in zero n = []
+digits_in (suc more) n = last_digits (places more n) n
+
+last_appended : AppendsLastDigit digits_in
+unfolding places digits_in
+last_appended = record { one = one; more = more }
+  where
+    one : (k n : ℕ) → n < 10 → digits_in (suc k) n ≡ (48 + n) ∷ []
+    one k n small =
+        let digit : n % 10 ≡ n = omega arith in
+        rw (places-small k n small, digit) refl
+
+    more : (k n : ℕ) → 10 ≤ n → digits_in (suc k) n ≡ digits_in k (n / 10) ++ ((48 + n % 10) ∷ [])
+    more zero n large = refl
+    more (suc k) n large = rw (places-large k n large) refl
+
+pub decimal_of-decimal : (n : ℕ) → n < 2 ^ 32 → decimal n ≡ decimal_of n
+unfolding decimal_of digits_in
+decimal_of-decimal n small =
+    sym (decimal_from_appends digits_in last_appended 10 n (omega arith) (length-decimal-le 10 n (omega arith) (omega arith) (omega arith)))

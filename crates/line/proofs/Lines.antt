@@ -58,6 +58,18 @@ module _ (numbers out : List ℕ) where
   unfolding count_of leaves_of
   without-room short = (rw (lt-leb (length numbers) (length out / 11) short), rw (lt-leb (length numbers) (length out / 11) short))
 
+  -- of what is lent, just the line is to be written
+  pub line_alone : (count : ℕ) (laid : List ℕ) → length numbers ≤ length out / 11 → count ≡ count_of numbers out
+      → laid ≡ leaves_of numbers out
+      → take count laid ≡ line_of numbers
+  unfolding count_of leaves_of
+  line_alone count laid room counted is =
+      let fits = le-leb (length numbers) (length out / 11) room in
+      let long : count ≡ length (line_of numbers) = counted ∙ ap (λ t. cond t (length (line_of numbers)) 0) fits in
+      let held : laid ≡ line_of numbers ++ drop (length (line_of numbers)) out =
+      is ∙ ap (λ t. cond t (line_of numbers ++ drop (length (line_of numbers)) out) out) fits in
+      rw (held, long) (take-append_seam (line_of numbers) (drop (length (line_of numbers)) out))
+
 -- ---- a name before the numbers
 module _ (name out copied : List ℕ) (room : length name < length out)
     (copy : copied ≡ name ++ drop (length name) out) where

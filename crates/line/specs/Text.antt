@@ -1,5 +1,10 @@
 -- Numbers as a line of text: in decimal, with one space between and a newline after the last.
 use Rattle.std.specs.Prelude.{ℕ, zero, suc, ◌+◌, ◌-◌, ◌/◌, Bool, cond, ◌&&◌, List, [], ◌∷◌, ◌++◌, ltb, leb, eqb, length, get_or, take, drop, ◌%◌, ◌≡◌, ◌≤◌}
+use Rattle.answer.specs.declared.Numbers.{Numbers}
+
+-- The numbers of an answer's line.
+abbrev pub in_line : Numbers → List ℕ
+in_line numbers = numbers.code ∷ numbers.event ∷ numbers.partner ∷ numbers.peak ∷ []
 
 -- How many digits a number has, where it has no more than so many and one.
 unfoldable pub places : ℕ → ℕ → ℕ

@@ -2,14 +2,42 @@
 
 #![tactic(auto)]
 
-ghost use Rattle.std.specs.Prelude.{◌≡◌, cond, ◌++◌, ◌∷◌, ◌+◌, ◌-◌, ◌*◌, ◌^◌, ◌≤◌, ◌<◌, eqb, length, take, drop};
-ghost use Rattle.line.specs.Text.{IsPrefixLen, places, last_digits, decimal_of, line_of, count_of, leaves_of, named_count, named_leaves};
+ghost use Rattle.std.specs.Prelude.{◌≡◌, cond, ◌++◌, ◌∷◌, ◌+◌, ◌*◌, ◌≤◌, ◌<◌, eqb, length, take, drop, OnOk};
+ghost use Rattle.std.specs.Io.KnownBytes.{Appends};
+ghost use Rattle.answer.specs.Numbers.{numbers_of};
+ghost use Rattle.line.specs.Text.{IsPrefixLen, decimal_of, in_line, line_of, count_of, leaves_of, named_count, named_leaves};
+
+use answer::Answer;
+use itoa::Buffer;
+use std::io;
+use std::io::Write;
 
 // Ten digits and what ends them.
 pub const NUMBER_LENGTH: usize = 11;
 
+// The longest line of an answer, which has four numbers.
+pub const LINE_LENGTH: usize = 4 * NUMBER_LENGTH;
+
+// Code, event, partner and peak.
+pub fn answer_numbers(answer: Answer) -> [u32; 4]
+    ensures { result ≡ in_line (numbers_of answer) }
+{
+    let numbers = answer.numbers();
+    [numbers.code, numbers.event, numbers.partner, numbers.peak]
+}
+
+// One write, so that a pipe has the line whole or not at all.
+pub fn write_line<W: Write>(writer: &mut W, numbers: &[u32]) -> io::Result<()>
+    requires { length numbers.now ≤ 4 }
+    ensures { OnOk result (Appends (W.contents writer.old) (W.contents writer.new) (line_of numbers.now)) }
+{
+    let mut line = [0u8; LINE_LENGTH];
+    let length = lay_out(numbers, &mut line);
+    writer.write_all(&line[..length])
+}
+
 // Puts the line at the start of what is lent and returns its length. With less lent than each number may need, nothing is
-// written and the length is 0.
+// written and the length is 0 (clause `value`: what cannot fail has no `Option`).
 pub fn lay_out(numbers: &[u32], out: &mut [u8]) -> usize
     ensures value { result ≡ count_of numbers.now out.old }
     ensures out_after { out.new ≡ leaves_of numbers.now out.old }
@@ -22,7 +50,7 @@ pub fn lay_out(numbers: &[u32], out: &mut [u8]) -> usize
     }
 }
 
-// The same with a name and a space before the numbers.
+// The same with a name and a space before the numbers, and as little said where nothing is written.
 pub fn lay_out_named(name: &[u8], numbers: &[u32], out: &mut [u8]) -> usize
     ensures value { result ≡ named_count name.now numbers.now out.old }
     ensures out_after { out.new ≡ named_leaves name.now numbers.now out.old }
@@ -64,41 +92,14 @@ fn end_of(i: usize, count: usize) -> u8
 // Puts a number's digits and what ends it into the line from index `at` on, and returns the index past them.
 fn put(line: &mut [u8], at: usize, number: u32, end: u8) -> usize
     requires { at + 11 ≤ length line.old }
-    ensures value { result ≡ at + length (decimal_of number) + 1 }
-    ensures line_after { line.new ≡ take at line.old ++ (decimal_of number ++ end ∷ drop result line.old) }
-    ensures upper_bound { result ≤ at + 11 }
+    ensures past { result ≡ at + length (decimal_of number) + 1 }
+    ensures laid { line.new ≡ take at line.old ++ (decimal_of number ++ end ∷ drop result line.old) }
+    ensures within { result ≤ at + 11 }
 {
-    let past = at + digit_count(number);
-    put_digits(number, &mut line[at..past]);
+    let mut buffer = Buffer::new();
+    let digits = buffer.format(number).as_bytes();
+    let past = at + digits.len();
+    line[at..past].copy_from_slice(digits);
     line[past] = end;
     past + 1
-}
-
-// How many digits a number has: the fewest that hold it.
-fn digit_count(number: u32) -> usize
-    ensures count { result ≡ places 9 number }
-    ensures holds { number < 10 ^ result }
-    ensures fewest { 1 < result → 10 ^ (result - 1) ≤ number }
-    ensures upper_bound { result ≤ 10 }
-{
-    let mut rest = number;
-    let mut count = 1;
-    while rest >= 10 {
-        rest /= 10;
-        count += 1;
-    }
-    count
-}
-
-// Fills what is lent with the last digits of a number, from its end on.
-fn put_digits(number: u32, out: &mut [u8])
-    ensures { out.new ≡ last_digits (length out.old) number }
-{
-    let mut rest = number;
-    let mut at = out.len();
-    while at > 0 {
-        at -= 1;
-        out[at] = b'0' + (rest % 10) as u8;
-        rest /= 10;
-    }
 }

@@ -1,12 +1,9 @@
 -- What a test tells, and tests put together.
 -- Assumes nothing.
-use Prim.Native.Nat.{ℕ, ◌≤◌}
 use mathlib.Core.Path.{◌≡◌, refl, sym}
 use mathlib.Core.Logic.{◌↔◌, ◌⊎◌, inl, inr, ⊎_elim}
 use mathlib.Core.Bool.{Bool, true, false, not, ◌&&◌, ◌||◌, false≢true}
 use mathlib.Mathlib.Data.Bool.Basic.{eq-false_of_not-eq-true}
-use lib.Dec.{leb}
-use borrow.Author.Tests.{leb-true, le-leb}
 
 -- the test t tells whether P
 abbrev pub Tells : Bool → Type 0 → Type 0
@@ -56,7 +53,3 @@ or_right s t h = (or_tells s t (itself s) (itself t)).1 (inr h)
 pub equal_tests : (s t : Bool) → (s ≡ true → t ≡ true) → (t ≡ true → s ≡ true) → s ≡ t
 equal_tests true t f g = sym (f refl)
 equal_tests false t f g = sym (eq-false_of_not-eq-true (λ e. false≢true (g e)))
-
-pub leb-same : (a b c d : ℕ) → (a ≤ b → c ≤ d) → (c ≤ d → a ≤ b) → leb a b ≡ leb c d
-leb-same a b c d there back =
-    equal_tests (leb a b) (leb c d) (λ h. le-leb c d (there (leb-true a b h))) (λ h. le-leb a b (back (leb-true c d h)))

@@ -1,3 +1,2 @@
 -- Laws that the functions' proofs cite, and the proofs of the theorems.
-pub mod Written
 pub mod Theorems

@@ -10,8 +10,10 @@ ghost use Rattle.run.specs.Running.{lent};
 ghost use Rattle.word.specs.Word.{packed, unpacked};
 ghost use Rattle.lorvisk.specs.Boundary.{RanAs};
 
-// The code by which the sheet's writer says that it has written. It is no verdict, and does not cross.
-const WRITTEN: u32 = 1;
+use answer::Answer;
+
+// By this the sheet's writer says that it has written. It is no verdict, and does not cross.
+const WRITTEN: Answer = Answer::Accepted { events: 0, peak: 0 };
 
 // The answer of a trace file.
 #[unsafe(no_mangle)]
@@ -42,7 +44,7 @@ pub extern "C" fn lorvisk_write_sheet(word: u64, out: &mut [u8]) -> bool
     ensures out_after { out.new ≡ write_leaves (unpacked word) out.old }
 {
     let said = answer::write_sheet(word::unpack(word), out);
-    said.numbers().code == WRITTEN
+    said == WRITTEN
 }
 
 // The answer on a sheet; no verdict where the bytes are no sheet.

@@ -10,21 +10,19 @@ ghost use Rattle.std.specs.Prelude.{◌≡◌, ◌≢◌, ◌<◌, ℕ, length, 
 ghost use Rattle.line.specs.Text.{IsPrefixLen};
 
 use answer::{Answer, SHEET_LENGTH};
-use input::{Input, PATH_MAX};
-use line::NUMBER_LENGTH;
+use input::{PATH_MAX, Whole};
+use line::LINE_LENGTH;
 use std::env::{Env, FillError};
 use std::io;
 use std::io::Read;
 use trace::ENOUGH;
-
-// The system's number of the error that a name is longer than any path.
-const NAME_TOO_LONG: i32 = 36;
 
 fn main(rt: HostRuntime) {
     if !judge_argument(&rt, 1) {
         judge_input(&rt);
         return;
     }
+    // `env::args` copies the arguments to a heap, and knows none that is not UTF-8.
     for argument in 2..usize::MAX {
         if !judge_argument(&rt, argument) {
             return;
@@ -33,7 +31,7 @@ fn main(rt: HostRuntime) {
 }
 
 fn judge_input(rt: &HostRuntime) {
-    let answer = answer_from(rt, &mut rt.stdin(), b"standard input");
+    let answer = answer_or_none(rt, b"standard input", judge_file(&mut rt.stdin()));
     let mut sheet = [0u8; SHEET_LENGTH];
     answer::write_sheet(answer, &mut sheet);
     let _ = rt.write_all(&sheet);
@@ -43,28 +41,43 @@ fn judge_input(rt: &HostRuntime) {
 fn judge_argument(rt: &HostRuntime, argument: usize) -> bool {
     let mut name = [0u8; PATH_MAX];
     match rt.arg(argument, &mut name) {
-        Ok(length) => judge_name(rt, &name[..length]),
-        Err(FillError::TooLong) => {
-            not_read(rt, &name, io::Error::from_raw_os_error(NAME_TOO_LONG));
+        Ok(length) => {
+            let name = &name[..length];
+            print(rt, name, judge_named(rt, name));
         }
+        Err(FillError::TooLong) => print(rt, &name, Err(input::name_too_long())),
         Err(FillError::NotPresent) => return false,
     }
     true
 }
 
-fn judge_name(rt: &HostRuntime, name: &[u8]) {
-    let line = first_line(name);
-    if line < name.len() {
-        not_one_line(rt, &name[..line]);
-        return;
+fn judge_named(rt: &HostRuntime, name: &[u8]) -> io::Result<Answer> {
+    if name.contains(&b'\n') {
+        return Err(io::Error::other(
+            "the name goes on after a newline: judge the file on standard input",
+        ));
     }
-    match input::open(rt, name) {
-        Ok(mut file) => {
-            let answer = answer_from(rt, &mut file, name);
-            print(rt, name, answer);
-        }
-        Err(error) => not_read(rt, name, error),
-    }
+    judge_file(&mut input::open(rt, name)?)
+}
+
+fn judge_file<R: Read>(file: &mut R) -> io::Result<Answer> {
+    let mut beginning = [0u8; ENOUGH];
+    let Whole { held, total } = input::read(file, &mut beginning)?;
+    Ok(judge::judge_beginning(&beginning[..held], total))
+}
+
+// A file that has no answer has no verdict, and a line on standard error.
+fn answer_or_none(rt: &HostRuntime, name: &[u8], answer: io::Result<Answer>) -> Answer {
+    input::ok_or_report(rt, name, answer).unwrap_or(Answer::NoVerdict)
+}
+
+// One write, so that a pipe has the line whole or not at all. Nobody is left to tell of one that fails.
+fn print(rt: &HostRuntime, name: &[u8], answer: io::Result<Answer>) {
+    let name = &name[..first_line(name)];
+    let numbers = line::answer_numbers(answer_or_none(rt, name, answer));
+    let mut line = [0u8; PATH_MAX + 1 + LINE_LENGTH];
+    let length = line::lay_out_named(name, &numbers, &mut line);
+    let _ = rt.write_all(&line[..length]);
 }
 
 // How many bytes of a name stand before its first newline.
@@ -73,51 +86,7 @@ fn first_line(name: &[u8]) -> usize
     ensures before { (k : ℕ) → k < result → slice_index name.now k ≢ 10 }
     ensures newline { result < length name.now → slice_index name.now result ≡ 10 }
 {
-    for (i, byte) in name.iter().enumerate() {
-        if *byte == b'\n' {
-            return i;
-        }
-    }
-    name.len()
-}
-
-fn not_one_line(rt: &HostRuntime, beginning: &[u8]) {
-    let _ = rt.stderr().write_all(beginning);
-    let _ = rt.stderr().write_all(
-        b": the name goes on after a newline: judge the file on standard input\n",
-    );
-    print(rt, beginning, Answer::NoVerdict);
-}
-
-fn not_read(rt: &HostRuntime, name: &[u8], error: io::Error) {
-    let line = first_line(name);
-    fail(rt, &name[..line], error);
-    print(rt, &name[..line], Answer::NoVerdict);
-}
-
-// The answer of the input, which has this name on standard error.
-fn answer_from<R: Read>(rt: &HostRuntime, file: &mut R, name: &[u8]) -> Answer {
-    let mut beginning = [0u8; ENOUGH];
-    match input::read(file, &mut beginning) {
-        Input::Whole { held, total } => judge::judge_beginning(&beginning[..held], total),
-        Input::Unread(error) => {
-            fail(rt, name, error);
-            Answer::NoVerdict
-        }
-    }
-}
-
-// A line on standard error. Of a write that fails there nobody is left to tell, as of one on standard output.
-fn fail(rt: &HostRuntime, name: &[u8], error: io::Error) {
-    let _ = rt.stderr().write_all(name);
-    let _ = eprintln!(rt; ": {error}");
-}
-
-// One write, so that a pipe has the line whole or not at all.
-fn print(rt: &impl Print, name: &[u8], answer: Answer) {
-    let numbers = answer.numbers();
-    let four = [numbers.code, numbers.event, numbers.partner, numbers.peak];
-    let mut line = [0u8; PATH_MAX + 1 + 4 * NUMBER_LENGTH];
-    let length = line::lay_out_named(name, &four, &mut line);
-    let _ = rt.write_all(&line[..length]);
+    name.iter()
+        .position(|byte| *byte == b'\n')
+        .unwrap_or(name.len())
 }

@@ -4,37 +4,35 @@
 
 #![tactic(auto)]
 
+ghost use Rattle.std.specs.Prelude.{◌≤◌, length};
+
 use answer::Answer;
-use input::Input;
-use line::NUMBER_LENGTH;
-use trace::{ENOUGH, Shape};
+use input::Whole;
+use std::io;
+use trace::{ENOUGH, Header};
 
 fn main(rt: HostRuntime) {
     let mut beginning = [0u8; ENOUGH];
     match input::read(&mut rt.stdin(), &mut beginning) {
-        Input::Whole { held, total } => print_shape(&rt, trace::check(&beginning[..held], total)),
-        Input::Unread(_) => print_answer(&rt, Answer::NoVerdict),
+        Ok(Whole { held, total }) => print_shape(&rt, trace::check(&beginning[..held], total)),
+        Err(_) => print_answer(&rt, Answer::NoVerdict),
     }
 }
 
-fn print_shape(rt: &impl Print, shape: Shape) {
+fn print_shape(rt: &impl Print, shape: Result<Header, Answer>) {
     match shape {
-        Shape::Formed(header) => print(rt, &[header.events, header.global, header.shared]),
-        Shape::Refused(answer) => print_answer(rt, answer),
+        Ok(header) => print(rt, &[header.events, header.global, header.shared]),
+        Err(answer) => print_answer(rt, answer),
     }
 }
 
 fn print_answer(rt: &impl Print, answer: Answer) {
-    let numbers = answer.numbers();
-    print(
-        rt,
-        &[numbers.code, numbers.event, numbers.partner, numbers.peak],
-    );
+    print(rt, &line::answer_numbers(answer));
 }
 
-// One write, so that a pipe has the line whole or not at all. Nobody is left to tell of one that fails.
-fn print(rt: &impl Print, numbers: &[u32]) {
-    let mut line = [0u8; 4 * NUMBER_LENGTH];
-    let length = line::lay_out(numbers, &mut line);
-    let _ = rt.write_all(&line[..length]);
+// Nobody is left to tell of a write that fails.
+fn print(rt: &impl Print, numbers: &[u32])
+    requires { length numbers.now ≤ 4 }
+{
+    let _ = line::write_line(&mut io::writer(rt), numbers);
 }

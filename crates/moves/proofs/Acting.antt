@@ -30,7 +30,8 @@ use Rattle.event.proofs.Sizes.{copy-size, thread-size, bulk-size, reads_less}
 use Rattle.effect.specs.Memory.{Global, Shared, initial, read, write, get}
 use Rattle.effect.specs.Access.{Access, reading, writing}
 use Rattle.rules.specs.Events.{memory_of, accesses}
-use Rattle.rules.specs.Faults.{Lengths, length_of, aligned, inside, all_inside, in_range, faultless}
+use Rattle.rules.specs.declared.Lengths.{Lengths}
+use Rattle.rules.specs.Faults.{length_of, aligned, inside, all_inside, in_range, faultless}
 use Rattle.rules.specs.Outcomes.{load_size}
 use Rattle.moves.specs.Acting.{Memories, moved, memories, alone, acted}
 use Rattle.moves.proofs.Parts.{length-read, part-back}

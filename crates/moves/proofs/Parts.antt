@@ -1,13 +1,12 @@
 -- A part of a memory is lent and comes back; what a copy puts into it.
 -- Assumes nothing.
-use Prim.Native.Nat.{ℕ, suc, ◌+◌, ◌-◌, ◌≤◌, ◌<◌}
+use Prim.Native.Nat.{ℕ, ◌+◌, ◌-◌, ◌≤◌}
 use native.Mathlib.Nat.{add_comm}
-use native.Mathlib.Numerals.{add-one}
 use native.Mathlib.Omega.{arith}
 use mathlib.Core.Path.{◌≡◌, refl, sym, ap, ap₂, ◌∙◌}
-use mathlib.Core.List.{List, [], ◌∷◌, ◌++◌, append_assoc, append-nil}
-use lib.ListN.{length, get_or, set, take, drop, replicate, length-take, length-drop, length-append, length-replicate, drop_of_length-le, replicate-append-replicate}
-use lib.Seq.{sets-eq, set_at, drop-cons, drop-drop, take-append-add, take_at}
+use mathlib.Core.List.{List, [], ◌++◌, append_assoc, append-nil}
+use lib.ListN.{length, take, drop, replicate, length-take, length-drop, length-append, length-replicate, drop_of_length-le, replicate-append-replicate}
+use lib.Seq.{sets-eq, drop-drop, take-append-add, take_at}
 use borrow.Rule.Slice.PartMut.{put_mid}
 use Rattle.effect.specs.Memory.{read, write}
 use Rattle.effect.specs.Effect.{padded}
@@ -80,18 +79,3 @@ padded-back source destination copied zeros fits e z =
 
     rest : length (take (length copied - length source) (drop (length source) copied)) ≡ length destination - length source
     rest = rw (length-take, length-drop) (omega (arith, long))
-
--- ---- clearing
--- the first i bytes are cleared
-abbrev pub cleared : ℕ → List ℕ → List ℕ
-cleared i bytes = replicate i 0 ++ drop i bytes
-
-pub cleared-next : (i : ℕ) (bytes : List ℕ) → i < length bytes → set (cleared i bytes) i 0 ≡ cleared (i + 1) bytes
-cleared-next i bytes h =
-    ap (λ l. set (replicate i 0 ++ l) i 0) (drop-cons bytes i 0 h)
-    ∙ set_at (replicate i 0) (get_or bytes i 0) (drop (suc i) bytes) 0 i (length-replicate i 0)
-    ∙ sym (append_assoc (replicate i 0) (0 ∷ []) (drop (suc i) bytes))
-    ∙ ap₂ (λ zeros rest. zeros ++ rest) (replicate-append-replicate i 1 0) (ap (λ n. drop n bytes) (sym (add-one i)))
-
-pub cleared-all : (bytes : List ℕ) → cleared (length bytes) bytes ≡ replicate (length bytes) 0
-cleared-all bytes = ap (λ l. replicate (length bytes) 0 ++ l) (drop_of_length-le bytes {i = length bytes} (omega arith)) ∙ append-nil (replicate (length bytes) 0)

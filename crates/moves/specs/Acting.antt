@@ -1,9 +1,12 @@
 -- An event acts, on the two memories and the load record.
-use Rattle.std.specs.Prelude.{ℕ, ◌+◌, List, [], length, get_or}
+use Rattle.std.specs.Prelude.{ℕ, ◌+◌, ◌≡◌, List, [], length, get_or}
+use Rattle.std.specs.Borrow.{MutBor}
 use Rattle.event.specs.declared.Event.{Event}
 use Rattle.effect.specs.Memory.{State, initial, write}
 use Rattle.effect.specs.Effect.{does}
 use Rattle.rules.specs.Events.{effect_of}
+use Rattle.rules.specs.declared.Lengths.{Lengths}
+use Rattle.moves.specs.declared.Lent.{Lent}
 
 -- The two memories, and the load record with the bytes before `filled` in use.
 pub record Memories : Type 0 where
@@ -34,3 +37,21 @@ acted e m = record {
   loads = write m.loads m.filled (read_by e m);
   filled = m.filled + length (read_by e m);
 }
+
+-- A reference is still the one that was lent, to as many bytes.
+abbrev pub IsSame : MutBor (List ℕ) → MutBor (List ℕ) → Type 0
+IsSame before after = (after.ghost_name ≡ before.ghost_name) × (length after.now ≡ length before.now)
+
+-- So is each reference of the program's own struct.
+abbrev pub IsSameLoan : Lent → Lent → Type 0
+IsSameLoan before after =
+    IsSame before.global after.global
+    × IsSame before.shared after.shared
+    × IsSame before.loads after.loads
+
+-- What the struct holds.
+abbrev pub held : Lent → Memories
+held l = memories l.global.now l.shared.now l.loads.now l.filled
+
+abbrev pub lengths : Lent → Lengths
+lengths l = record { global = length l.global.now; shared = length l.shared.now }

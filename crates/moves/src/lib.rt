@@ -3,48 +3,77 @@
 
 #![tactic(auto)]
 
-mod copies;
 mod memory;
 mod thread;
 
 ghost use Rattle.std.specs.Prelude.{◌≡◌, true, ◌+◌, ◌≤◌, length};
 ghost use Rattle.rules.specs.Faults.{faultless};
 ghost use Rattle.rules.specs.Outcomes.{load_size};
-ghost use Rattle.moves.specs.Acting.{moved, memories, acted};
+ghost use Rattle.moves.specs.Acting.{moved, memories, acted, held, lengths, IsSame, IsSameLoan};
 
-use event::{Event, bytes_read};
+use event::{Event, GlobalAddress, SharedAddress, bytes_read};
+use memory::Memory;
 
-// An event without fault acts, on memories of the lengths that it was judged by. Its load goes to index `filled` of the
-// record; the index past it is returned.
-pub fn act(
-    event: Event,
-    global: &mut [u8],
-    shared: &mut [u8],
-    loads: &mut [u8],
-    filled: usize,
-) -> usize
-    requires event_value { faultless (record { global = length global.now; shared = length shared.old }) event ≡ true }
-    requires event_in_bounds { filled + load_size event ≤ length loads.old }
-    ensures { memories global.new shared.new loads.new result ≡ acted event (memories global.old shared.old loads.old filled) }
-{
-    if let Event::Load { address, size } = event {
-        let end = filled + (size as usize);
-        thread::load(address, size, global, shared, &mut loads[filled..end]);
-        end
-    } else {
-        move_bytes(event, global, shared);
-        filled
+// What is lent: the two memories, and the load record with the bytes before index `filled` in use. Three lifetimes and plain
+// slices: with one lifetime, or a `Memory` in here, nothing was known of what a caller's memories end as, and its proof did
+// not close.
+#[derive(Drop)]
+pub struct Lent<'g, 's, 'l> {
+    pub global: &'g mut [u8],
+    pub shared: &'s mut [u8],
+    pub loads: &'l mut [u8],
+    pub filled: usize,
+}
+
+impl<'g, 's, 'l> Lent<'g, 's, 'l> {
+    // No byte of the record is in use yet.
+    pub fn new(global: &'g mut [u8], shared: &'s mut [u8], loads: &'l mut [u8]) -> Lent<'g, 's, 'l>
+        ensures same_global { IsSame global.entry result.global }
+        ensures same_shared { IsSame shared.entry result.shared }
+        ensures same_loads { IsSame loads.entry result.loads }
+        ensures held { held result ≡ memories global.old shared.old loads.old 0 }
+    {
+        Lent {
+            global,
+            shared,
+            loads,
+            filled: 0,
+        }
+    }
+
+    // An event without fault acts, on memories of the lengths that it was judged by.
+    pub fn act(&mut self, event: Event)
+        requires faultless { faultless (lengths self.old) event ≡ true }
+        requires load_fits { self.old.filled + load_size event ≤ length self.old.loads.now }
+        ensures same_loan { IsSameLoan self.old self.new }
+        ensures acted { held self.new ≡ acted event (held self.old) }
+    {
+        let mut global = Memory::new(self.global);
+        let mut shared = Memory::new(self.shared);
+        if let Event::Load { address, size } = event {
+            let end = self.filled + (size as usize);
+            let to = &mut self.loads[self.filled..end];
+            thread::load(address, size, &global, &shared, to);
+            self.filled = end;
+        } else {
+            move_bytes(event, &mut global, &mut shared);
+        }
     }
 }
 
 // Writes what a store, a copy, a bulk copy or a reduction writes to its memory; the other events write to none.
-fn move_bytes(event: Event, global: &mut [u8], shared: &mut [u8])
-    requires { faultless (record { global = length global.now; shared = length shared.old }) event ≡ true }
-    ensures global_after { global.new ≡ (moved event global.old shared.old).global }
-    ensures shared_after { shared.new ≡ (moved event global.old shared.old).shared }
+fn move_bytes(
+    event: Event,
+    global: &mut Memory<'_, GlobalAddress>,
+    shared: &mut Memory<'_, SharedAddress>,
+)
+    requires { faultless (record { global = length global.old.bytes.now; shared = length shared.old.bytes.now }) event ≡ true }
+    ensures same_global { IsSame global.old.bytes global.new.bytes }
+    ensures same_shared { IsSame shared.old.bytes shared.new.bytes }
+    ensures global_after { global.new.bytes.now ≡ (moved event global.old.bytes.now shared.old.bytes.now).global }
+    ensures shared_after { shared.new.bytes.now ≡ (moved event global.old.bytes.now shared.old.bytes.now).shared }
 {
     match event {
-        Event::Load { .. } => {}
         Event::Store {
             address,
             size,
@@ -57,22 +86,21 @@ fn move_bytes(event: Event, global: &mut [u8], shared: &mut [u8])
             cp_size,
             mode,
             ..
-        } => copies::copy(dst, src, bytes_read(mode, cp_size), cp_size, global, shared),
-        Event::Commit => {}
-        Event::Wait(_) => {}
-        Event::WaitAll => {}
-        Event::BulkCopy { dst, src, size } => {
-            memory::write_global(global, dst, memory::shared_part(shared, src, size))
-        }
+        } => shared.write_padded(dst, cp_size, global.part(src, bytes_read(mode, cp_size))),
+        Event::BulkCopy { dst, src, size } => global.write(dst, shared.part(src, size)),
         Event::BulkReduction {
             dst,
             src,
             size,
             operation,
             element,
-        } => copies::bulk_reduction(dst, src, size, operation, element, global, shared),
-        Event::BulkCommit => {}
-        Event::BulkWait(_) => {}
+        } => global.reduce(dst, shared.part(src, size), operation, element),
+        Event::Load { .. }
+        | Event::Commit
+        | Event::Wait(_)
+        | Event::WaitAll
+        | Event::BulkCommit
+        | Event::BulkWait(_) => {}
     }
 }
 

@@ -1,52 +1,124 @@
-// Parts of the two memories. An address counts in one memory, and its number is taken out of it only to index that one.
-ghost use Rattle.std.specs.Prelude.{◌≡◌, ◌+◌, ◌≤◌, ◌<◌, length};
+// A memory, and the addresses that count in it. An address's number is taken out of it only to index its memory.
+ghost use Rattle.std.specs.Prelude.{◌≡◌, ◌+◌, ◌%◌, ◌≤◌, ◌<◌, ℕ, length};
 ghost use Rattle.effect.specs.Memory.{read, write};
+ghost use Rattle.effect.specs.Element.{reduce};
+ghost use Rattle.effect.specs.Effect.{padded};
+ghost use Rattle.moves.specs.Acting.{IsSame};
 
-use event::{GlobalAddress, SharedAddress};
+use event::{ElementType, GlobalAddress, Operation, SharedAddress};
+use std::marker::PhantomData;
 
-// So many bytes of global memory. Where there are none, the address may lie outside.
-pub(crate) fn global_part(global: &[u8], at: GlobalAddress, size: u32) -> &[u8]
-    requires { 0 < size → at.0 + size ≤ length global.now }
-    ensures { result.now ≡ read global.now at.0 size }
-{
-    if size == 0 {
-        return &global[..0];
+// An address of one memory.
+pub(crate) trait Place: Copy {
+    ghost offset: { Self → ℕ };
+
+    // Its number.
+    fn offset(self) -> usize
+        ensures { result ≡ offset self };
+}
+
+impl Place for GlobalAddress {
+    ghost offset = { λ at. at.0 };
+
+    fn offset(self) -> usize {
+        self.0 as usize
     }
-    let start = at.0 as usize;
-    let end = start + (size as usize);
-    &global[start..end]
 }
 
-pub(crate) fn shared_part(shared: &[u8], at: SharedAddress, size: u32) -> &[u8]
-    requires { at.0 + size ≤ length shared.now }
-    ensures { result.now ≡ read shared.now at.0 size }
-{
-    let start = at.0 as usize;
-    let end = start + (size as usize);
-    &shared[start..end]
+impl Place for SharedAddress {
+    ghost offset = { λ at. at.0 };
+
+    fn offset(self) -> usize {
+        self.0 as usize
+    }
 }
 
-// Writes these bytes to global memory: only the part for them is lent on.
-pub(crate) fn write_global(global: &mut [u8], at: GlobalAddress, source: &[u8])
-    requires { at.0 + length source.now ≤ length global.old }
-    ensures { global.new ≡ write global.old at.0 source.now }
-{
-    let start = at.0 as usize;
-    let end = start + source.len();
-    copy_all(source, &mut global[start..end]);
+// The bytes of the memory that addresses of type `A` count in: no others index them.
+#[derive(Drop)]
+pub(crate) struct Memory<'a, A> {
+    bytes: &'a mut [u8],
+    indexed_by: PhantomData<A>,
 }
 
-pub(crate) fn write_shared(shared: &mut [u8], at: SharedAddress, source: &[u8])
-    requires { at.0 + length source.now ≤ length shared.old }
-    ensures { shared.new ≡ write shared.old at.0 source.now }
+impl<'a, A: Place> Memory<'a, A> {
+    pub(crate) fn new(bytes: &'a mut [u8]) -> Memory<'a, A>
+        ensures same_reference { IsSame bytes.entry result.bytes }
+        ensures same_bytes { result.bytes.now ≡ bytes.old }
+    {
+        Memory {
+            bytes,
+            indexed_by: PhantomData,
+        }
+    }
+
+    // `size` bytes. Where there are none, the address may lie outside.
+    pub(crate) fn part(&self, at: A, size: u32) -> &[u8]
+        requires { 0 < size → A.offset at + size ≤ length self.now.bytes.now }
+        ensures { result.now ≡ read self.now.bytes.now (A.offset at) size }
+    {
+        if size == 0 {
+            return &self.bytes[..0];
+        }
+        let start = at.offset();
+        let end = start + (size as usize);
+        &self.bytes[start..end]
+    }
+
+    // Writes these bytes. Here and below only the part that is written is lent on.
+    pub(crate) fn write(&mut self, at: A, source: &[u8])
+        requires { A.offset at + length source.now ≤ length self.old.bytes.now }
+        ensures same_reference { IsSame self.old.bytes self.new.bytes }
+        ensures written { self.new.bytes.now ≡ write self.old.bytes.now (A.offset at) source.now }
+    {
+        let memory = &mut *self.bytes;
+        let start = at.offset();
+        let end = start + source.len();
+        copy_all(source, &mut memory[start..end]);
+    }
+
+    // Writes these bytes, and zeros after them, `size` bytes in all.
+    pub(crate) fn write_padded(&mut self, at: A, size: u32, source: &[u8])
+        requires { (A.offset at + size ≤ length self.old.bytes.now) × (length source.now ≤ size) }
+        ensures same_reference { IsSame self.old.bytes self.new.bytes }
+        ensures written { self.new.bytes.now ≡ write self.old.bytes.now (A.offset at) (padded size source.now) }
+    {
+        let memory = &mut *self.bytes;
+        let start = at.offset();
+        let end = start + (size as usize);
+        copy_padded(source, &mut memory[start..end]);
+    }
+
+    // Combines each element of the source with the one here.
+    pub(crate) fn reduce(
+        &mut self,
+        at: A,
+        source: &[u8],
+        operation: Operation,
+        element: ElementType,
+    )
+        requires { (A.offset at + length source.now ≤ length self.old.bytes.now) × (length source.now % 4 ≡ 0) }
+        ensures same_reference { IsSame self.old.bytes self.new.bytes }
+        ensures combined { self.new.bytes.now ≡ write self.old.bytes.now (A.offset at) (reduce operation element (read self.old.bytes.now (A.offset at) (length source.now)) source.now) }
+    {
+        let memory = &mut *self.bytes;
+        let start = at.offset();
+        let end = start + source.len();
+        reduction::reduce(&mut memory[start..end], source, operation, element);
+    }
+}
+
+// Copies the source to the destination; the bytes not read are zero.
+fn copy_padded(source: &[u8], destination: &mut [u8])
+    requires { length source.now ≤ length destination.old }
+    ensures { destination.new ≡ padded (length destination.old) source.now }
 {
-    let start = at.0 as usize;
-    let end = start + source.len();
-    copy_all(source, &mut shared[start..end]);
+    let count = source.len();
+    copy_all(source, &mut destination[..count]);
+    destination[count..].fill(0);
 }
 
 // Copies as many bytes as the destination has. A loop, and not `copy_from_slice`, whose memmove the header does not ask a C
-// host for.
+// host for; by index, since the proof did not close over a zip of `iter_mut`, after which nothing is known of what it lent.
 pub(crate) fn copy_all(source: &[u8], destination: &mut [u8])
     requires { length destination.old ≡ length source.now }
     ensures { destination.new ≡ source.now }

@@ -5,19 +5,26 @@ ghost use Rattle.event.specs.Addresses.{offset_of};
 ghost use Rattle.effect.specs.Memory.{get, put, initial};
 ghost use Rattle.rules.specs.Events.{memory_of};
 ghost use Rattle.rules.specs.Faults.{length_of};
+ghost use Rattle.moves.specs.Acting.{IsSame};
 
-use crate::memory::{copy_all, global_part, shared_part, write_global, write_shared};
-use event::Address;
+use crate::memory::{Memory, copy_all};
+use event::{Address, GlobalAddress, SharedAddress};
 
 // Reads `size` bytes into what is lent of the record.
-pub(crate) fn load(address: Address, size: u32, global: &[u8], shared: &[u8], to: &mut [u8])
-    requires size_in_bounds { offset_of address + size ≤ length_of (record { global = length global.now; shared = length shared.now }) (memory_of address) }
+pub(crate) fn load(
+    address: Address,
+    size: u32,
+    global: &Memory<'_, GlobalAddress>,
+    shared: &Memory<'_, SharedAddress>,
+    to: &mut [u8],
+)
+    requires size_in_bounds { offset_of address + size ≤ length_of (record { global = length global.now.bytes.now; shared = length shared.now.bytes.now }) (memory_of address) }
     requires to_len { length to.old ≡ size }
-    ensures { to.new ≡ get (memory_of address) (offset_of address) size (initial global.now shared.now 1) }
+    ensures { to.new ≡ get (memory_of address) (offset_of address) size (initial global.now.bytes.now shared.now.bytes.now 1) }
 {
     match address {
-        Address::Global(at) => copy_all(global_part(global, at, size), to),
-        Address::Shared(at) => copy_all(shared_part(shared, at, size), to),
+        Address::Global(at) => copy_all(global.part(at, size), to),
+        Address::Shared(at) => copy_all(shared.part(at, size), to),
     }
 }
 
@@ -27,18 +34,20 @@ pub(crate) fn store(
     size: u32,
     low: u64,
     high: u64,
-    global: &mut [u8],
-    shared: &mut [u8],
+    global: &mut Memory<'_, GlobalAddress>,
+    shared: &mut Memory<'_, SharedAddress>,
 )
-    requires size_in_bounds { offset_of address + size ≤ length_of (record { global = length global.now; shared = length shared.old }) (memory_of address) }
+    requires size_in_bounds { offset_of address + size ≤ length_of (record { global = length global.old.bytes.now; shared = length shared.old.bytes.now }) (memory_of address) }
     requires size_bound { size ≤ 16 }
-    ensures { initial global.new shared.new 1 ≡ put (memory_of address) (offset_of address) (take size (value_bytes low high)) (initial global.old shared.old 1) }
+    ensures same_global { IsSame global.old.bytes global.new.bytes }
+    ensures same_shared { IsSame shared.old.bytes shared.new.bytes }
+    ensures stored { initial global.new.bytes.now shared.new.bytes.now 1 ≡ put (memory_of address) (offset_of address) (take size (value_bytes low high)) (initial global.old.bytes.now shared.old.bytes.now 1) }
 {
     let value = value_bytes(low, high);
     let length = size as usize;
     match address {
-        Address::Global(at) => write_global(global, at, &value[..length]),
-        Address::Shared(at) => write_shared(shared, at, &value[..length]),
+        Address::Global(at) => global.write(at, &value[..length]),
+        Address::Shared(at) => shared.write(at, &value[..length]),
     }
 }
 

@@ -6,24 +6,22 @@ use mathlib.Core.Path.{◌≡◌, refl, sym, ap, ◌∙◌}
 use mathlib.Core.List.{List, [], ◌∷◌, ◌++◌, append_assoc, append-nil}
 use lib.ListN.{length, get_or, take, drop, length-append, length-drop, get_or-append}
 use lib.Seq.{sets, sets-eq, take_at, drop_at, take-length, take-suc, drop-append-add, get_or-append-add, get_or-drop, drop-drop}
+use Rattle.std.specs.List.{flat_map}
+use Rattle.std.proofs.lemmas.List.Concat.{flat_map-append}
 use Rattle.operations.specs.declared.Record.{Record}
-use Rattle.operations.specs.Table.{range_words, mark_words, record_at, records, all_words, placed}
+use Rattle.operations.specs.Table.{range_words, mark_words, record_at, records, placed}
 
 -- ---- of either place
 module _ (words : Record → List ℕ) (four : (r : Record) → length (words r) ≡ 4) where
-  pub length-all : (rs : List Record) → length (all_words words rs) ≡ 4 * length rs
+  pub length-all : (rs : List Record) → length (flat_map words rs) ≡ 4 * length rs
   length-all [] = refl
-  length-all (r ∷ rs) = length-append (words r) (all_words words rs) ∙ omega (arith, four r, length-all rs)
-
-  all_append : (rs ss : List Record) → all_words words (rs ++ ss) ≡ all_words words rs ++ all_words words ss
-  all_append [] ss = refl
-  all_append (r ∷ rs) ss = rw (all_append rs ss, append_assoc)
+  length-all (r ∷ rs) = length-append (words r) (flat_map words rs) ∙ omega (arith, four r, length-all rs)
 
   pub length-placed : (rs : List Record) (place : List ℕ) → 4 * length rs ≤ length place
       → length (placed words rs place) ≡ length place
   unfolding placed
   length-placed rs place h =
-      length-append (all_words words rs) (drop (4 * length rs) place)
+      length-append (flat_map words rs) (drop (4 * length rs) place)
       ∙ omega (arith, length-all rs, length-drop (4 * length rs) place)
 
   -- the words past the records are those of the place
@@ -31,10 +29,10 @@ module _ (words : Record → List ℕ) (four : (r : Record) → length (words r)
       → get_or (placed words rs place) m 0 ≡ get_or place m 0
   unfolding placed
   past rs place m h =
-      let here : length (all_words words rs) + (m - 4 * length rs) ≡ m = omega (arith, length-all rs) in
+      let here : length (flat_map words rs) + (m - 4 * length rs) ≡ m = omega (arith, length-all rs) in
       let there : 4 * length rs + (m - 4 * length rs) ≡ m = omega arith in
       ap (λ k. get_or (placed words rs place) k 0) (sym here)
-      ∙ get_or-append-add (all_words words rs) (drop (4 * length rs) place) (m - 4 * length rs) 0
+      ∙ get_or-append-add (flat_map words rs) (drop (4 * length rs) place) (m - 4 * length rs) 0
       ∙ get_or-drop (4 * length rs) place (m - 4 * length rs) 0
       ∙ ap (λ k. get_or place k 0) there
 
@@ -44,7 +42,7 @@ module _ (words : Record → List ℕ) (four : (r : Record) → length (words r)
   unfolding placed
   put_next rs r place h =
       let n : ℕ = 4 * length rs in
-      let all = all_words words rs in
+      let all = flat_map words rs in
       let room : n + length (words r) ≤ length (all ++ drop n place) =
       omega (arith, four r, length-placed rs place (omega arith)) in
       let more : 4 * length (rs ++ r ∷ []) ≡ n + 4 = omega (arith, length-append rs (r ∷ [])) in
@@ -52,26 +50,26 @@ module _ (words : Record → List ℕ) (four : (r : Record) → length (words r)
       let rest : drop (n + length (words r)) (all ++ drop n place) ≡ drop (n + 4) place =
       ap (λ k. drop k (all ++ drop n place)) size ∙ drop-append-add all (drop n place) 4 ∙ drop-drop 4 n place in
       sets-eq (words r) (all ++ drop n place) n room
-      ∙ rw (take_at all (drop n place) n (length-all rs), rest, more, all_append rs (r ∷ []), append-nil (words r), append_assoc all (words r) (drop (n + 4) place))
+      ∙ rw (take_at all (drop n place) n (length-all rs), rest, more, flat_map-append words rs (r ∷ []), append-nil (words r), append_assoc all (words r) (drop (n + 4) place))
 
   -- they stand once
   pub again : (rs : List Record) (place : List ℕ) → placed words rs (placed words rs place) ≡ placed words rs place
   unfolding placed
   again rs place =
-      ap (λ l. all_words words rs ++ l) (drop_at (all_words words rs) (drop (4 * length rs) place) (4 * length rs) (length-all rs))
+      ap (λ l. flat_map words rs ++ l) (drop_at (flat_map words rs) (drop (4 * length rs) place) (4 * length rs) (length-all rs))
 
   -- the words of a record
   word_in : (rs : List Record) (place : List ℕ) (k j : ℕ) (d : Record) → k < length rs → j < 4
-      → get_or (all_words words rs ++ place) (4 * k + j) 0 ≡ get_or (words (get_or rs k d)) j 0
+      → get_or (flat_map words rs ++ place) (4 * k + j) 0 ≡ get_or (words (get_or rs k d)) j 0
   word_in [] place k j d h l = absurd (omega arith)
   word_in (r ∷ rs) place zero j d h l =
       let at : 4 * 0 + j ≡ j = omega arith in
-      rw (at, append_assoc (words r) (all_words words rs) place)
-      (get_or-append (words r) (all_words words rs ++ place) 0 j (omega (arith, four r)))
+      rw (at, append_assoc (words r) (flat_map words rs) place)
+      (get_or-append (words r) (flat_map words rs ++ place) 0 j (omega (arith, four r)))
   word_in (r ∷ rs) place (suc k) j d h l =
       let at : 4 * suc k + j ≡ length (words r) + (4 * k + j) = omega (arith, four r) in
-      rw (at, append_assoc (words r) (all_words words rs) place)
-      (get_or-append-add (words r) (all_words words rs ++ place) (4 * k + j) 0 ∙ word_in rs place k j d (omega arith) l)
+      rw (at, append_assoc (words r) (flat_map words rs) place)
+      (get_or-append-add (words r) (flat_map words rs ++ place) (4 * k + j) 0 ∙ word_in rs place k j d (omega arith) l)
 
 -- ---- of both
 unfoldable pub four-ranges : (r : Record) → length (range_words r) ≡ 4

@@ -1,33 +1,22 @@
 -- The search for the first record that clashes.
 -- Assumes nothing.
-use Prim.Native.Nat.{ℕ, zero, suc, ◌+◌, ◌-◌, ◌<◌}
-use native.Mathlib.Omega.{arith}
+use Rattle.std.proofs.Common.{◌≡◌, ℕ, zero, suc, ◌+◌, ◌-◌, ◌<◌, true, false, List, [], ◌∷◌, ◌++◌, Option, Some, None, option_map, find, refl, sym, ap, ◌∙◌, arith, add-one, append_assoc, append-nil}
+use Rattle.std.specs.Option.{option_or}
+use Rattle.std.proofs.lemmas.List.Folds.{find-append}
 use native.Mathlib.Nat.{add-zero, add-suc}
-use native.Mathlib.Numerals.{add-one}
-use mathlib.Core.Path.{◌≡◌, refl, sym, ap, ◌∙◌}
-use mathlib.Core.Bool.{Bool, true, false, cond}
-use mathlib.Core.List.{List, [], ◌∷◌, ◌++◌, append_assoc, append-nil}
-use Rattle.operations.specs.declared.Partner.{Partner}
-use Rattle.operations.specs.declared.Partner.TheVariants.{Event, Nobody}
 use Rattle.operations.specs.declared.Record.{Record}
 use Rattle.operations.specs.Table.{record_at, records}
 use Rattle.operations.specs.Clash.{clash_of, first_clash}
 
--- The partner that is found, or else the other.
-abbrev pub or_next : Partner → Partner → Partner
-or_next (Event e) next = Event e
-or_next Nobody next = next
-
 -- The first of two lists that has one.
 pub first-append : (event : Record) (rs ss : List Record)
-    → first_clash event (rs ++ ss) ≡ or_next (first_clash event rs) (first_clash event ss)
-first-append event [] ss = refl
-first-append event (r ∷ rs) ss = rw (first-append event rs ss) (by_test (clash_of event r))
+    → first_clash event (rs ++ ss) ≡ option_or (first_clash event rs) (first_clash event ss)
+first-append event rs ss = rw find-append (by_first (find (clash_of event) rs) (find (clash_of event) ss))
   where
-    by_test : (t : Bool) → cond t (Event r.event) (or_next (first_clash event rs) (first_clash event ss))
-        ≡ or_next (cond t (Event r.event) (first_clash event rs)) (first_clash event ss)
-    by_test true = refl
-    by_test false = refl
+    by_first : (found next : Option Record) → option_map (λ (r : Record). r.event) (option_or found next)
+        ≡ option_or (option_map (λ (r : Record). r.event) found) (option_map (λ (r : Record). r.event) next)
+    by_first (Some r) next = refl
+    by_first None next = refl
 
 -- More records stand behind the first.
 more-records : (ranges marks : List ℕ) (n d : ℕ)
@@ -38,19 +27,19 @@ more-records ranges marks n (suc d) =
     let (rest, e) = more-records ranges marks n d in
     (rest ++ record_at ranges marks (n + d) ∷ [], rw (add-suc n d, e, append_assoc))
 
-module _ (event : Record) (ranges marks : List ℕ) (k : ℕ) (found : first_clash event (records k ranges marks) ≡ Nobody) where
-  next : first_clash event (records (suc k) ranges marks)
-      ≡ cond (clash_of event (record_at ranges marks k)) (Event (record_at ranges marks k).event) Nobody
+module _ (event : Record) (ranges marks : List ℕ) (k : ℕ) (found : first_clash event (records k ranges marks) ≡ None) where
+  next : first_clash event (records (suc k) ranges marks) ≡ first_clash event (record_at ranges marks k ∷ [])
   unfolding records
   next = first-append event (records k ranges marks) (record_at ranges marks k ∷ []) ∙ rw found
 
-  pub none_yet : clash_of event (record_at ranges marks k) ≡ false → first_clash event (records (k + 1) ranges marks) ≡ Nobody
+  pub none_yet : clash_of event (record_at ranges marks k) ≡ false → first_clash event (records (k + 1) ranges marks) ≡ None
   none_yet h = rw add-one (next ∙ rw h)
 
   pub found_here : (n : ℕ) → k < n → clash_of event (record_at ranges marks k) ≡ true
-      → first_clash event (records n ranges marks) ≡ Event (record_at ranges marks k).event
+      → first_clash event (records n ranges marks) ≡ Some (record_at ranges marks k).event
   found_here n l h =
       let (rest, e) = more-records ranges marks (suc k) (n - suc k) in
       let all : suc k + (n - suc k) ≡ n = omega arith in
+      let here : first_clash event (records (suc k) ranges marks) ≡ Some (record_at ranges marks k).event = next ∙ rw h in
       ap (λ m. first_clash event (records m ranges marks)) (sym all)
-      ∙ ap (first_clash event) e ∙ first-append event (records (suc k) ranges marks) rest ∙ rw (next, h)
+      ∙ ap (first_clash event) e ∙ first-append event (records (suc k) ranges marks) rest ∙ rw here

@@ -1,7 +1,6 @@
 -- Which record of the table an event clashes with.
-use Rattle.std.specs.Prelude.{ℕ, ◌+◌, ◌≤◌, ◌<◌, min, max, Bool, not, cond, ◌&&◌, ◌||◌, List, [], ◌∷◌, eqb, ltb}
-use Rattle.operations.specs.declared.Partner.{Partner}
-use Rattle.operations.specs.declared.Partner.TheVariants.{Event, Nobody}
+use Rattle.std.specs.Prelude.{ℕ, ◌+◌, ◌≤◌, ◌<◌, min, max, Bool, not, cond, ◌&&◌, ◌||◌, List, Option, option_map, eqb, ltb}
+use Rattle.std.specs.List.{find}
 use Rattle.operations.specs.declared.Range.{Range}
 use Rattle.operations.specs.declared.Record.{Record}
 use Rattle.operations.specs.Tag.{written_in, tags_may_share}
@@ -31,7 +30,5 @@ clash_of event operation =
     (share_byte event.writes operation.reads || share_byte event.reads operation.writes)
 
 -- The event of the first record that clashes.
-abbrev pub first_clash : Record → List Record → Partner
-first_clash event [] = Nobody
-first_clash event (operation ∷ operations) =
-    cond (clash_of event operation) (Event operation.event) (first_clash event operations)
+abbrev pub first_clash : Record → List Record → Option ℕ
+first_clash event operations = option_map (λ (operation : Record). operation.event) (find (clash_of event) operations)

@@ -1,5 +1,6 @@
 -- The table of records in the words of two places.
 use Rattle.std.specs.Prelude.{ℕ, zero, suc, ◌+◌, ◌*◌, List, [], ◌∷◌, ◌++◌, length, get_or, drop}
+use Rattle.std.specs.List.{flat_map}
 use Rattle.operations.specs.declared.Record.{Record}
 
 -- The four words that a record has in each place.
@@ -23,10 +24,6 @@ unfoldable pub records : ℕ → List ℕ → List ℕ → List Record
 records zero ranges marks = []
 records (suc n) ranges marks = records n ranges marks ++ record_at ranges marks n ∷ []
 
-abbrev pub all_words : (Record → List ℕ) → List Record → List ℕ
-all_words words [] = []
-all_words words (r ∷ rs) = words r ++ all_words words rs
-
 -- A place with these records first, and the words past them as they were.
 unfoldable pub placed : (Record → List ℕ) → List Record → List ℕ → List ℕ
-placed words rs place = all_words words rs ++ drop (4 * length rs) place
+placed words rs place = flat_map words rs ++ drop (4 * length rs) place

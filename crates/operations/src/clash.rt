@@ -3,7 +3,7 @@ ghost use Rattle.std.specs.Prelude.{◌≡◌, true, ◌↔◌};
 ghost use Rattle.operations.specs.Clash.{ShareByte, clash_of};
 
 use crate::tag::{may_share, written_in};
-use crate::{Range, Record, Sharing};
+use crate::{Range, Record};
 
 // Whether some byte is in both.
 pub(crate) fn overlap(a: Range, b: Range) -> bool
@@ -24,18 +24,14 @@ pub(crate) fn overlap(a: Range, b: Range) -> bool
 
 // Two records that write the same memory read the other one, so they can meet only in what both write; others, only in
 // what one writes and the other reads.
-pub(crate) fn sharing(event: Record, operation: Record) -> Sharing
-    ensures { result.clash ≡ clash_of event operation }
+pub(crate) fn clashes(event: Record, operation: Record) -> bool
+    ensures { result ≡ clash_of event operation }
 {
     if may_share(event.tag, operation.tag) {
-        return Sharing { clash: false };
+        return false;
     }
     if written_in(event.tag) == written_in(operation.tag) {
-        return Sharing {
-            clash: overlap(event.writes, operation.writes),
-        };
+        return overlap(event.writes, operation.writes);
     }
-    Sharing {
-        clash: overlap(event.writes, operation.reads) | overlap(event.reads, operation.writes),
-    }
+    overlap(event.writes, operation.reads) | overlap(event.reads, operation.writes)
 }

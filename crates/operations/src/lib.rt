@@ -8,6 +8,8 @@ mod closing;
 mod table;
 mod tag;
 
+// The two places stay parameters side by side: in a struct of two `&mut`, `first_clash`, which reads, would ask for places to
+// write, and `put` and `close` would have to promise besides that it holds the same two afterwards.
 pub use closing::close;
 pub use table::{first_clash, put};
 
@@ -26,25 +28,28 @@ pub struct Record {
     pub reads: Range,
     pub event: u32,
     pub commits: u32,
+    // A number, as it stands in a word of the places: theorem `TagsTellApart` tells tags apart by its digits.
     pub tag: u32,
 }
 
-// What two records have to do with each other.
+// The memory that a record writes, with its digit of a tag.
 #[derive(Clone, Copy)]
-pub(crate) struct Sharing {
-    pub clash: bool,
+pub enum Memory {
+    Shared = 0,
+    Global = 1,
 }
 
-// The event that another clashes with.
+// The chain that closes an operation, that of the non-bulk copies or the bulk one, with its digit of a tag.
 #[derive(Clone, Copy)]
-pub enum Partner {
-    Event(u32),
-    Nobody,
+pub enum Chain {
+    Copies = 0,
+    Bulk = 1,
 }
 
 // A wait on a chain: how many groups the chain has made, and how many of the newest stay open.
 #[derive(Clone, Copy)]
 pub struct Wait {
+    // A digit as in a tag, and no `Chain`: `close`, which docs/SIGNATURE.md names, takes any, and a narrower type would ask more.
     pub chain: u32,
     pub commits: u32,
     pub newest: u32,

@@ -4,8 +4,8 @@ ghost use Rattle.std.proofs.lemmas.List.Edits.{sets};
 ghost use Rattle.operations.specs.Table.{record_at, records, range_words, mark_words};
 ghost use Rattle.operations.specs.Clash.{first_clash};
 
-use crate::clash::sharing;
-use crate::{Partner, Range, Record};
+use crate::clash::clashes;
+use crate::{Range, Record};
 
 // So many words has a record in either place.
 const WORDS: usize = 4;
@@ -47,18 +47,17 @@ pub fn put(ranges: &mut [u32], marks: &mut [u32], index: u32, operation: Record)
     marks[word + 3] = 0;
 }
 
-// The event of the first record, of so many, that the event clashes with: with records in event order, the lowest.
-pub fn first_clash(ranges: &[u32], marks: &[u32], count: u32, event: Record) -> Partner
+// The event of the first record, of so many, that the event clashes with: with records in event order, the lowest. A loop by
+// index: the closures of a chain would each need `record_at`'s `requires` written out.
+pub fn first_clash(ranges: &[u32], marks: &[u32], count: u32, event: Record) -> Option<u32>
     requires { (4 * count ≤ length ranges.now) × (4 * count ≤ length marks.now) }
     ensures { result ≡ first_clash event (records count ranges.now marks.now) }
 {
-    let mut index: u32 = 0;
-    while index < count {
+    for index in 0..count {
         let operation = record_at(ranges, marks, index);
-        if sharing(event, operation).clash {
-            return Partner::Event(operation.event);
+        if clashes(event, operation) {
+            return Some(operation.event);
         }
-        index += 1;
     }
-    Partner::Nobody
+    None
 }

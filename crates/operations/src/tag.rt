@@ -1,7 +1,17 @@
 // A tag has four parts, each a digit of base 16, so that none is ever taken for another: the memory that is written, the
 // chain that closes it, and, of a reduction, its operation and its type.
 ghost use Rattle.std.specs.Prelude.{◌≡◌};
-ghost use Rattle.operations.specs.Tag.{written_in, chain_in, reduction_in, tags_may_share};
+ghost use Rattle.operations.specs.Tag.{chain_digit, written_in, chain_in, reduction_in, tags_may_share};
+
+use crate::Chain;
+
+impl Chain {
+    pub fn digit(self) -> u32
+        ensures { result ≡ chain_digit self }
+    {
+        self as u32
+    }
+}
 
 pub(crate) fn written_in(tag: u32) -> u32
     ensures { result ≡ written_in tag }

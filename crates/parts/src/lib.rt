@@ -3,13 +3,10 @@
 #![tactic(auto)]
 
 ghost use Rattle.std.specs.Prelude.{◌≡◌, ◌<◌};
-ghost use Rattle.parts.specs.Parts.{bytes, access_part, load_part, store_part, copy_part, bulk_part, reduction_tag, commit_copies, commit_bulk, wait_copies, wait_bulk, part_of};
+ghost use Rattle.parts.specs.Parts.{bytes, access_part, load_part, store_part, operation_part, reduction_tag, groups_in, committed, wait_on, part_of};
 
-use event::{
-    Address, ElementType, Event, GlobalAddress, Operation, SharedAddress, bytes_read,
-    operation_number, type_number,
-};
-use operations::{Range, Record, Wait};
+use event::{Address, ElementType, Event, GlobalAddress, Operation, SharedAddress, bytes_read};
+use operations::{Chain, Memory, Range, Record, Wait};
 
 // How many groups each chain has made: that of the non-bulk copies, and the bulk one.
 #[derive(Clone, Copy)]
@@ -28,25 +25,56 @@ pub enum Part {
     Wait(GroupsMade, Wait),
 }
 
-// The parts of a tag, as crate `operations` reads them, are digits of base 16: the memory that is written ..
-const SHARED: u32 = 0;
+impl GroupsMade {
+    fn of(self, chain: Chain) -> u32
+        ensures { result ≡ groups_in chain self }
+    {
+        match chain {
+            Chain::Copies => self.copies,
+            Chain::Bulk => self.bulk,
+        }
+    }
 
-const GLOBAL: u32 = 1;
+    // With one group more of the chain.
+    fn commit(self, chain: Chain) -> GroupsMade
+        requires { groups_in chain self < 4294967295 }
+        ensures { result ≡ committed chain self }
+    {
+        match chain {
+            Chain::Copies => GroupsMade {
+                copies: self.copies + 1,
+                ..self
+            },
+            Chain::Bulk => GroupsMade {
+                bulk: self.bulk + 1,
+                ..self
+            },
+        }
+    }
 
-// .. the chain that closes the operation ..
-const COPIES: u32 = 0;
+    // A wait on the chain that leaves so many of its newest groups open.
+    fn wait(self, chain: Chain, newest: u32) -> Wait
+        ensures { result ≡ wait_on chain self newest }
+    {
+        Wait {
+            chain: chain.digit(),
+            commits: self.of(chain),
+            newest,
+        }
+    }
+}
 
-const BULK: u32 = 1;
+// The parts of a tag, as crate `operations` reads them, are digits of base 16: the memory that is written, the chain that
+// closes the operation. A tag is a number: see `Record` ..
+const COPY_TAG: u32 = Memory::Shared as u32 + 16 * (Chain::Copies as u32);
 
-const COPY_TAG: u32 = SHARED + 16 * COPIES;
-
-const BULK_TAG: u32 = GLOBAL + 16 * BULK;
+const BULK_TAG: u32 = Memory::Global as u32 + 16 * (Chain::Bulk as u32);
 
 // .. and, of a reduction, its operation, from 1 on, and its type.
 fn reduction_tag(operation: Operation, element: ElementType) -> u32
     ensures { result ≡ reduction_tag operation element }
 {
-    BULK_TAG + 256 * (1 + operation_number(operation)) + 4096 * type_number(element)
+    BULK_TAG + 256 * (1 + u32::from(operation)) + 4096 * u32::from(element)
 }
 
 // What event `number` is, before which the chains have made these groups.
@@ -63,10 +91,16 @@ pub fn part_of(number: u32, made: GroupsMade, event: Event) -> Part
             cp_size,
             mode,
             ..
-        } => copy(number, made, dst, cp_size, src, bytes_read(mode, cp_size)),
-        Event::Commit => Part::Commit(commit_copies(made)),
-        Event::Wait(newest) => Part::Wait(made, wait_copies(made, newest)),
-        Event::WaitAll => Part::Wait(commit_copies(made), wait_copies(commit_copies(made), 0)),
+        } => {
+            let read = bytes(src.0, bytes_read(mode, cp_size));
+            opened(number, made.copies, bytes(dst.0, cp_size), read, COPY_TAG)
+        }
+        Event::Commit => Part::Commit(made.commit(Chain::Copies)),
+        Event::Wait(newest) => Part::Wait(made, made.wait(Chain::Copies, newest)),
+        Event::WaitAll => {
+            let made = made.commit(Chain::Copies);
+            Part::Wait(made, made.wait(Chain::Copies, 0))
+        }
         Event::BulkCopy { dst, src, size } => bulk(number, made, dst, src, size, BULK_TAG),
         Event::BulkReduction {
             dst,
@@ -74,16 +108,12 @@ pub fn part_of(number: u32, made: GroupsMade, event: Event) -> Part
             size,
             operation,
             element,
-        } => bulk(
-            number,
-            made,
-            dst,
-            src,
-            size,
-            reduction_tag(operation, element),
-        ),
-        Event::BulkCommit => Part::Commit(commit_bulk(made)),
-        Event::BulkWait(newest) => Part::Wait(made, wait_bulk(made, newest)),
+        } => {
+            let tag = reduction_tag(operation, element);
+            bulk(number, made, dst, src, size, tag)
+        }
+        Event::BulkCommit => Part::Commit(made.commit(Chain::Bulk)),
+        Event::BulkWait(newest) => Part::Wait(made, made.wait(Chain::Bulk, newest)),
     }
 }
 
@@ -120,25 +150,6 @@ fn access(number: u32, writes: Range, reads: Range, tag: u32) -> Part
     })
 }
 
-fn copy(
-    number: u32,
-    made: GroupsMade,
-    dst: SharedAddress,
-    size: u32,
-    src: GlobalAddress,
-    read: u32,
-) -> Part
-    ensures { result ≡ copy_part number made dst size src read }
-{
-    Part::Operation(Record {
-        writes: bytes(dst.0, size),
-        reads: bytes(src.0, read),
-        event: number,
-        commits: made.copies,
-        tag: COPY_TAG,
-    })
-}
-
 fn bulk(
     number: u32,
     made: GroupsMade,
@@ -147,13 +158,26 @@ fn bulk(
     size: u32,
     tag: u32,
 ) -> Part
-    ensures { result ≡ bulk_part number made dst src size tag }
+    ensures { result ≡ operation_part number made.bulk (bytes dst.0 size) (bytes src.0 size) tag }
+{
+    opened(
+        number,
+        made.bulk,
+        bytes(dst.0, size),
+        bytes(src.0, size),
+        tag,
+    )
+}
+
+// An operation, which is open from here on.
+fn opened(number: u32, commits: u32, writes: Range, reads: Range, tag: u32) -> Part
+    ensures { result ≡ operation_part number commits writes reads tag }
 {
     Part::Operation(Record {
-        writes: bytes(dst.0, size),
-        reads: bytes(src.0, size),
+        writes,
+        reads,
         event: number,
-        commits: made.bulk,
+        commits,
         tag,
     })
 }
@@ -162,44 +186,4 @@ fn bytes(start: u32, length: u32) -> Range
     ensures { result ≡ bytes start length }
 {
     Range { start, length }
-}
-
-fn commit_copies(made: GroupsMade) -> GroupsMade
-    requires { made.copies < 4294967295 }
-    ensures { result ≡ commit_copies made }
-{
-    GroupsMade {
-        copies: made.copies + 1,
-        bulk: made.bulk,
-    }
-}
-
-fn commit_bulk(made: GroupsMade) -> GroupsMade
-    requires { made.bulk < 4294967295 }
-    ensures { result ≡ commit_bulk made }
-{
-    GroupsMade {
-        copies: made.copies,
-        bulk: made.bulk + 1,
-    }
-}
-
-fn wait_copies(made: GroupsMade, newest: u32) -> Wait
-    ensures { result ≡ wait_copies made newest }
-{
-    Wait {
-        chain: COPIES,
-        commits: made.copies,
-        newest,
-    }
-}
-
-fn wait_bulk(made: GroupsMade, newest: u32) -> Wait
-    ensures { result ≡ wait_bulk made newest }
-{
-    Wait {
-        chain: BULK,
-        commits: made.bulk,
-        newest,
-    }
 }

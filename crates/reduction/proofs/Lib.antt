@@ -1,2 +1,3 @@
--- Laws of elements, over their width.
+-- Laws of elements, over their width, and of their order.
 pub mod Elements
+pub mod Order

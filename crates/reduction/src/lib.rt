@@ -12,7 +12,7 @@ ghost use Rattle.effect.specs.Element.{element_in, is_signed, combined, reduce};
 
 use element::combined;
 use event::{ElementType, Operation};
-use little_endian::four_at;
+use little_endian::number_at;
 
 // The bytes of an element.
 const WIDTH: usize = 4;
@@ -23,10 +23,9 @@ pub fn reduce(destination: &mut [u8], source: &[u8], operation: Operation, eleme
     ensures { destination.new ≡ reduce operation element destination.old source.now }
 {
     let signed = is_signed(element);
-    let mut at: usize = 0;
-    while at < destination.len() {
-        reduce_at(destination, source, at, operation, signed);
-        at += WIDTH;
+    // By number: the proof did not close over `chunks_exact_mut`, after which nothing is known of the bytes that it lent.
+    for index in 0..destination.len() / WIDTH {
+        reduce_at(destination, source, index * WIDTH, operation, signed);
     }
 }
 
@@ -38,19 +37,15 @@ fn reduce_at(destination: &mut [u8], source: &[u8], at: usize, operation: Operat
     let number = combined(
         operation,
         signed,
-        four_at(destination, at),
-        four_at(source, at),
+        number_at(destination, at),
+        number_at(source, at),
     );
-    little_endian::put(destination, at, WIDTH, number as u64);
+    little_endian::put(destination, at, WIDTH, u64::from(number));
 }
 
 // Whether elements of a type compare as two's complement.
 fn is_signed(element: ElementType) -> bool
     ensures { result ≡ is_signed element }
 {
-    match element {
-        ElementType::B32 => false,
-        ElementType::U32 => false,
-        ElementType::S32 => true,
-    }
+    matches!(element, ElementType::S32)
 }

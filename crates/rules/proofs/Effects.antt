@@ -22,7 +22,8 @@ use Rattle.effect.proofs.Commute.{commute}
 use Rattle.order.specs.Order.{◌∈◌, Commute, runs}
 use Rattle.order.proofs.Confluence.{all-agree}
 use Rattle.rules.specs.Events.{effect_of, event_at}
-use Rattle.rules.specs.Faults.{Lengths, multiple_of, aligned, in_range}
+use Rattle.rules.specs.declared.Lengths.{Lengths}
+use Rattle.rules.specs.Faults.{multiple_of, aligned, in_range}
 use Rattle.rules.specs.Closing.{is_operation}
 use Rattle.rules.specs.Orders.{Action, turn, act, moment_of, actions_of, Must, PermittedOrder, CanComeEitherWay}
 use Rattle.rules.specs.Clashes.{Clean}

@@ -2,7 +2,6 @@
 -- Assumes nothing.
 use Prim.Native.Nat.{ℕ, zero, suc, ◌<◌}
 use native.Mathlib.Omega.{arith}
-use mathlib.Core.Option.{or_else}
 use mathlib.Core.Path.{refl}
 use mathlib.Core.Bool.{false≢true}
 use mathlib.Core.List.Memᴰ
@@ -22,11 +21,11 @@ use Rattle.rules.proofs.Actions.{in_actions}
 use Rattle.rules.proofs.Orders.{has-order}
 
 pub read_right : ReadRight
-unfolding ReadRight wrong_readings bytes_of is_value allowed aligned in_range groups closed_by is_open peak clashes judged answer_of or_else
+unfolding ReadRight wrong_readings bytes_of is_value allowed aligned in_range groups closed_by is_open peak clashes judged answer_of
 read_right = refl
 
 pub both_sides : BothSides
-unfolding BothSides examples bytes_of is_value allowed aligned in_range groups closed_by is_open peak clashes judged answer_of or_else
+unfolding BothSides examples bytes_of is_value allowed aligned in_range groups closed_by is_open peak clashes judged answer_of
 both_sides = refl
 
 pub runs_give : RunsGive

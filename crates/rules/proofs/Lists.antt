@@ -6,7 +6,7 @@ use mathlib.Core.Path.{◌≡◌, sym, ◌∙◌, ap}
 use mathlib.Core.Logic.{◌⊎◌, inl, inr}
 use mathlib.Core.Bool.{false≢true}
 use mathlib.Core.List.{List, [], ◌∷◌, ◌++◌, map}
-use mathlib.Core.Option.{some}
+use Rattle.std.specs.Prelude.{Some}
 use lib.ListN.{length, take, length-map, length-take}
 use lib.Seq.{get_or-take}
 use Rattle.little_endian.specs.Number.{within}
@@ -16,10 +16,11 @@ use Rattle.answer.specs.Table.{event_limit}
 use Rattle.answer.specs.Codes.{code_of, IsAccepted, IsRefusedAtEvent}
 use Rattle.event.specs.declared.Event.{Event}
 use Rattle.event.specs.declared.Event.TheVariants.{Commit}
-use Rattle.decoder.specs.declared.Item.{Item}
-use Rattle.decoder.specs.declared.Item.TheVariants.{Decoded}
+use Rattle.decoder.specs.Item.{Item}
+use Rattle.std.specs.Prelude.{Ok}
 use Rattle.effect.specs.Memory.{State, initial}
-use Rattle.rules.specs.Faults.{Lengths, fault_of}
+use Rattle.rules.specs.declared.Lengths.{Lengths}
+use Rattle.rules.specs.Faults.{fault_of}
 use Rattle.rules.specs.Orders.{Action, actions_of, PermittedOrder}
 use Rattle.rules.specs.Clashes.{Clean}
 use Rattle.rules.specs.Answers.{answer_of, answer_of_events}
@@ -37,7 +38,7 @@ use Rattle.rules.proofs.Waiting.{clean_kept, well_formed_kept, lasts-kept, loads
 module _ (lengths : Lengths) where
   judgement : (es : List Event) → WellFormed lengths es → Judgement es (answer_of_events lengths es)
   judgement es ok =
-      rw (within-limits lengths (map Decoded es) (rw length-map ok.limits))
+      rw (within-limits lengths (map Ok es) (rw length-map ok.limits))
       (judged_right lengths es ok.faultless)
 
   -- ---- exactly
@@ -84,11 +85,11 @@ module _ (lengths : Lengths) where
 
   -- ---- the first fault
   module _ (bad : Item) (more : List Item) (fault : Answer) where
-    after-events : (es : List Event) → WithinLimits lengths (length (map Decoded es ++ bad ∷ more))
-        → fault_of lengths (length es) bad ≡ some fault
-        → IsAccepted (answer_of_events lengths es) → answer_of lengths (map Decoded es ++ bad ∷ more) ≡ fault
+    after-events : (es : List Event) → WithinLimits lengths (length (map Ok es ++ bad ∷ more))
+        → fault_of lengths (length es) bad ≡ Some fault
+        → IsAccepted (answer_of_events lengths es) → answer_of lengths (map Ok es ++ bad ∷ more) ≡ fault
     after-events es w q h =
-        within-limits lengths (map Decoded es ++ bad ∷ more) w
+        within-limits lengths (map Ok es ++ bad ∷ more) w
         ∙ by_way (judged-through lengths es (bad ∷ more) (accepted_well_formed lengths es h).faultless)
       where
         by_way : {a : Answer} → Through lengths es (bad ∷ more) a → a ≡ fault
@@ -96,12 +97,12 @@ module _ (lengths : Lengths) where
         by_way (stops n) = absurd (named-clash es n (accepted_clean es h))
 
     pub fault-after : (before : List Item) → WithinLimits lengths (length (before ++ bad ∷ more))
-        → fault_of lengths (length before) bad ≡ some fault
+        → fault_of lengths (length before) bad ≡ Some fault
         → IsAccepted (answer_of lengths before) → answer_of lengths (before ++ bad ∷ more) ≡ fault
     fault-after before w q h =
         let v = accepted-items lengths before h in
         let es = v.events in
-        let k : length (map Decoded es) ≡ length es = length-map es Decoded in
+        let k : length (map Ok es) ≡ length es = length-map es Ok in
         rw v.are (after-events es (rw v.are at w) (rw (← k) (rw v.are at q)) (rw v.are at h))
 
   -- ---- the bytes

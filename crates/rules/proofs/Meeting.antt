@@ -23,7 +23,7 @@ use Rattle.effect.specs.Access.{Access, Meet}
 use Rattle.effect.specs.Effect.{Effect, nothing, load, store, copy, bulk_copy, bulk_reduction, MayShare, alike}
 use Rattle.rules.specs.Search.{any_in}
 use Rattle.rules.specs.Tests.{same_space, share_byte, meet, some_meet, reduction_with, same_reduction, may_share}
-use Rattle.rules.proofs.Search.{Some, any_tells}
+use Rattle.rules.proofs.Search.{SomeMember, any_tells}
 
 -- ---- two accesses meet
 space-tells : (x y : Space) → Tells (same_space x y) (x ≡ y)
@@ -60,11 +60,11 @@ meet-tells x y = Iff.trans
 
 -- some access of the one list meets some access of the other
 abbrev pub SomeMeet : List Access → List Access → Type 0
-SomeMeet xs ys = Some (λ x. Some (Meet x) ys) xs
+SomeMeet xs ys = SomeMember (λ x. SomeMember (Meet x) ys) xs
 
 pub some-meet-tells : (xs ys : List Access) → Tells (some_meet xs ys) (SomeMeet xs ys)
 some-meet-tells xs ys =
-    any_tells (λ x. any_in (meet x) ys) (λ x. Some (Meet x) ys) (λ x. any_tells (meet x) (Meet x) (meet-tells x) ys) xs
+    any_tells (λ x. any_in (meet x) ys) (λ x. SomeMember (Meet x) ys) (λ x. any_tells (meet x) (Meet x) (meet-tells x) ys) xs
 
 -- ---- two reductions may share
 -- the numbers tell the operations and the types apart

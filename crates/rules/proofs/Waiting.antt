@@ -17,7 +17,8 @@ use Rattle.effect.specs.Memory.{State}
 use Rattle.order.specs.Order.{◌∈◌}
 use Rattle.effect.specs.Access.{Access}
 use Rattle.rules.specs.Events.{effect_of, accesses, event_at}
-use Rattle.rules.specs.Faults.{Lengths, aligned, in_range, faultless}
+use Rattle.rules.specs.declared.Lengths.{Lengths}
+use Rattle.rules.specs.Faults.{aligned, in_range, faultless}
 use Rattle.rules.specs.Closing.{Chain, NonBulk, Bulk, Role, operation, wait_all, wait, role, closed_by, is_operation}
 use Rattle.rules.specs.Clashes.{EventsClash, Clean}
 use Rattle.rules.specs.Outcomes.{load_of, loads_of}

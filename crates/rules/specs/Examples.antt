@@ -1,5 +1,5 @@
 -- Lists on both sides of each rule, with their answers, and what some lists give; first the wrong readings seen before.
-use Rattle.std.specs.Prelude.{ℕ, ◌≡◌, List, [], ◌∷◌, map, replicate}
+use Rattle.std.specs.Prelude.{ℕ, ◌≡◌, List, [], ◌∷◌, map, replicate, Ok, Err}
 use Rattle.answer.specs.declared.Answer.{Answer}
 use Rattle.answer.specs.declared.Answer.TheVariants as answer
 use Rattle.answer.specs.declared.Answer.TheVariants.{Accepted, TooManyEvents, WrongMemoryLength, Misaligned, OutOfRange, Clash}
@@ -8,9 +8,9 @@ use Rattle.event.specs.declared.Event.{Event}
 use Rattle.event.specs.declared.Event.TheVariants.{Commit, Wait, WaitAll, BulkCommit, BulkWait}
 use Rattle.event.specs.declared.Mode.TheVariants.{Plain, SourceSize, SourceIgnored}
 use Rattle.event.specs.declared.Operation.TheVariants.{Add}
-use Rattle.decoder.specs.declared.Item.{Item}
-use Rattle.decoder.specs.declared.Item.TheVariants.{Decoded, UnknownKind, WrongBodyLength, FieldNotAllowed}
-use Rattle.rules.specs.Faults.{Lengths}
+use Rattle.rules.specs.declared.Lengths.{Lengths}
+use Rattle.decoder.specs.Item.{Item}
+use Rattle.decoder.specs.declared.Undecoded.TheVariants.{UnknownKind, WrongBodyLength, FieldNotAllowed}
 use Rattle.rules.specs.Orders.{Action, turn, act, actions_of, PermittedOrder}
 use Rattle.rules.specs.Answers.{answer_of}
 use Rattle.rules.specs.Outcomes.{Outcome, outcome}
@@ -27,10 +27,10 @@ abbrev items : Answer → List Item → Example
 items answer list = record { answer = answer; memories = lengths 16 16; items = list }
 
 abbrev events : Answer → List Event → Example
-events answer es = items answer (map Decoded es)
+events answer es = items answer (map Ok es)
 
 abbrev over : Answer → Lengths → List Event → Example
-over answer memories es = record { answer = answer; memories = memories; items = map Decoded es }
+over answer memories es = record { answer = answer; memories = memories; items = map Ok es }
 
 -- Of each a list that the wrong reading would answer otherwise.
 unfoldable pub wrong_readings : List Example
@@ -114,9 +114,9 @@ examples =
     ∷ over (OutOfRange 1) (lengths 16 8) (copy_of 4 0 ∷ load_shared 16 0 ∷ [])
     -- Events are judged in order; one that does not decode ends the judging at once.
     ∷ events (Clash 1 0) (copy_of 4 0 ∷ load_shared 4 0 ∷ load_global 3 1 ∷ [])
-    ∷ items (answer.UnknownKind 1) (Decoded Commit ∷ UnknownKind ∷ Decoded (load_global 3 1) ∷ [])
-    ∷ items (answer.WrongBodyLength 0) (WrongBodyLength ∷ UnknownKind ∷ [])
-    ∷ items (answer.FieldNotAllowed 0) (FieldNotAllowed ∷ [])
+    ∷ items (answer.UnknownKind 1) (Ok Commit ∷ Err UnknownKind ∷ Ok (load_global 3 1) ∷ [])
+    ∷ items (answer.WrongBodyLength 0) (Err WrongBodyLength ∷ Err UnknownKind ∷ [])
+    ∷ items (answer.FieldNotAllowed 0) (Err FieldNotAllowed ∷ [])
     -- 3 comes before 4, and 4 before the events.
     ∷ over TooManyEvents (lengths 65537 0) (replicate 1025 Commit)
     ∷ over WrongMemoryLength (lengths 0 65537) (load_global 3 1 ∷ [])

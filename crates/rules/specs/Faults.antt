@@ -1,6 +1,6 @@
 -- Memory lengths, and what can be wrong with an item of a list by itself: codes 5 to 9.
-use Rattle.std.specs.Prelude.{ℕ, ◌+◌, ◌%◌, Bool, true, false, ◌&&◌, ◌||◌, List, [], ◌∷◌, leb}
-use Rattle.std.proofs.Math.Option.{Option, none, some, or_else}
+use Rattle.std.specs.Prelude.{ℕ, ◌+◌, ◌%◌, Bool, true, false, ◌&&◌, ◌||◌, List, [], ◌∷◌, leb, Option, None, Some, Ok, Err}
+use Rattle.std.specs.Option.{option_or}
 use Rattle.little_endian.specs.Number.{is_zero}
 use Rattle.answer.specs.declared.Answer.{Answer}
 use Rattle.answer.specs.declared.Answer.TheVariants as answer
@@ -8,18 +8,13 @@ use Rattle.event.specs.declared.Event.{Event}
 use Rattle.event.specs.declared.Event.TheVariants.{Load, Store, Copy, Commit, Wait, WaitAll, BulkCopy, BulkReduction, BulkCommit, BulkWait}
 use Rattle.event.specs.Fields.{allowed}
 use Rattle.event.specs.Addresses.{offset_of}
-use Rattle.decoder.specs.declared.Item.{Item}
-use Rattle.decoder.specs.declared.Item.TheVariants.{Decoded, UnknownKind, WrongBodyLength, FieldNotAllowed}
+use Rattle.decoder.specs.Item.{Item}
 use Rattle.decoder.specs.Kinds.{refusal_of}
 use Rattle.trace.specs.File.{is_memory_length}
 use Rattle.effect.specs.Memory.{Space, Global, Shared}
 use Rattle.effect.specs.Access.{Access}
+use Rattle.rules.specs.declared.Lengths.{Lengths}
 use Rattle.rules.specs.Events.{accesses}
-
--- How many bytes each memory has.
-pub record Lengths : Type 0 where
-  pub global : ℕ
-  pub shared : ℕ
 
 -- Neither is over 65,536 (4).
 abbrev pub are_memory_lengths : Lengths → Bool
@@ -63,13 +58,13 @@ faultless lengths e = allowed e && aligned e && in_range lengths e
 
 -- A check gives its refusal, or none where it passes.
 abbrev pub unless : Bool → Answer → Option Answer
-unless true refusal = none
-unless false refusal = some refusal
+unless true refusal = None
+unless false refusal = Some refusal
 
 -- The first check of a list that refuses.
 abbrev pub first_of : List (Option Answer) → Option Answer
-first_of [] = none
-first_of (check ∷ checks) = or_else check (first_of checks)
+first_of [] = None
+first_of (check ∷ checks) = option_or check (first_of checks)
 
 -- The checks 7 to 9 of event j, in order.
 abbrev pub checks_alone : Lengths → ℕ → Event → List (Option Answer)
@@ -81,7 +76,5 @@ checks_alone lengths j e =
 
 -- The fault of item j, if it has one.
 abbrev pub fault_of : Lengths → ℕ → Item → Option Answer
-fault_of lengths j (Decoded e) = first_of (checks_alone lengths j e)
-fault_of lengths j UnknownKind = some (refusal_of j UnknownKind)
-fault_of lengths j WrongBodyLength = some (refusal_of j WrongBodyLength)
-fault_of lengths j FieldNotAllowed = some (refusal_of j FieldNotAllowed)
+fault_of lengths j (Ok e) = first_of (checks_alone lengths j e)
+fault_of lengths j (Err undecoded) = Some (refusal_of j (Err undecoded))

@@ -1,7 +1,6 @@
 -- What holds of the rules: conditions 2 and 3. Each statement is a type; proofs/Theorems.antt proves it, as
 -- `same_bytes : SameBytes`.
-use Rattle.std.specs.Prelude.{ℕ, suc, ◌≤◌, ◌<◌, ◌≡◌, ◌↔◌, ◌⊎◌, true, false, List, ◌∷◌, ◌++◌, map, length, take}
-use Rattle.std.proofs.Math.Option.{some}
+use Rattle.std.specs.Prelude.{ℕ, suc, ◌≤◌, ◌<◌, ◌≡◌, ◌↔◌, ◌⊎◌, true, false, List, ◌∷◌, ◌++◌, map, length, take, Some, Ok}
 use Rattle.little_endian.specs.Number.{within}
 use Rattle.answer.specs.declared.Answer.{Answer}
 use Rattle.answer.specs.declared.Answer.TheVariants as answer
@@ -9,15 +8,15 @@ use Rattle.answer.specs.Table.{event_limit}
 use Rattle.answer.specs.Codes.{code_of, IsAccepted, IsRefusedAtEvent}
 use Rattle.answer.specs.Sheet.{Given}
 use Rattle.event.specs.declared.Event.{Event}
-use Rattle.decoder.specs.declared.Item.{Item}
-use Rattle.decoder.specs.declared.Item.TheVariants.{Decoded}
+use Rattle.decoder.specs.Item.{Item}
 use Rattle.trace.specs.declared.Header.{Header}
 use Rattle.trace.specs.File.{refused, recorded, file_of}
 use Rattle.effect.specs.Memory.{Space}
 use Rattle.effect.specs.Access.{Access, Has}
 use Rattle.order.specs.Order.{◌∈◌}
 use Rattle.rules.specs.Events.{accesses, event_at}
-use Rattle.rules.specs.Faults.{Lengths, length_of, in_range, fault_of}
+use Rattle.rules.specs.declared.Lengths.{Lengths}
+use Rattle.rules.specs.Faults.{length_of, in_range, fault_of}
 use Rattle.rules.specs.Closing.{is_operation, closed_by}
 use Rattle.rules.specs.Orders.{Action, actions_of, PermittedOrder, CanComeEitherWay, happens_at}
 use Rattle.rules.specs.Clashes.{EventsClash, Clean}
@@ -96,13 +95,13 @@ Exactly =
 unfoldable pub AcceptedFile : Type 0
 AcceptedFile =
     (f : List ℕ) → IsAccepted (answer_of_file f)
-    → (lengths : Lengths) × (es : List Event) × Records f lengths (map Decoded es) × WellFormed lengths es × Clean es
+    → (lengths : Lengths) × (es : List Event) × Records f lengths (map Ok es) × WellFormed lengths es × Clean es
 
 -- With a fault (5 to 9) the answer is that of the items before it if they are refused, else the fault, whatever follows.
 unfoldable pub FirstFault : Type 0
 FirstFault =
     (lengths : Lengths) (before : List Item) (bad : Item) (more : List Item) (fault : Answer)
-    → WithinLimits lengths (length (before ++ bad ∷ more)) → fault_of lengths (length before) bad ≡ some fault
+    → WithinLimits lengths (length (before ++ bad ∷ more)) → fault_of lengths (length before) bad ≡ Some fault
     → (IsAccepted (answer_of lengths before) → answer_of lengths (before ++ bad ∷ more) ≡ fault)
     × (¬ IsAccepted (answer_of lengths before) → answer_of lengths (before ++ bad ∷ more) ≡ answer_of lengths before)
 
@@ -127,7 +126,7 @@ SameBytes =
 unfoldable pub SameBytesInFiles : Type 0
 SameBytesInFiles =
     (f : List ℕ) (lengths : Lengths) (es : List Event)
-    → Records f lengths (map Decoded es) → IsAccepted (answer_of_file f)
+    → Records f lengths (map Ok es) → IsAccepted (answer_of_file f)
     → (o₁ o₂ : List Action) → PermittedOrder es o₁ → PermittedOrder es o₂
     → (global shared : List ℕ) → outcome es global shared o₁ ≡ outcome es global shared o₂
 
@@ -150,7 +149,7 @@ MoreWaiting =
 unfoldable pub MoreWaitingInFiles : Type 0
 MoreWaitingInFiles =
     (f f' : List ℕ) (lengths : Lengths) (es es' : List Event)
-    → Records f lengths (map Decoded es) → Records f' lengths (map Decoded es') → Waited es es'
+    → Records f lengths (map Ok es) → Records f' lengths (map Ok es') → Waited es es'
     → IsAccepted (answer_of_file f) → IsAccepted (answer_of_file f') × GiveTheSame es es'
 
 -- More recording never pardons: a list refused at one of its events gets that same answer whatever items follow.

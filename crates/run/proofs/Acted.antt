@@ -10,13 +10,13 @@ use lib.Seq.{sets-eq}
 use Rattle.answer.specs.Codes.{IsAccepted}
 use Rattle.event.specs.declared.Event.{Event}
 use Rattle.event.specs.declared.Event.TheVariants.{Load, Store, Copy, Commit, Wait, WaitAll, BulkCopy, BulkReduction, BulkCommit, BulkWait}
-use Rattle.decoder.specs.declared.Item.TheVariants.{Decoded}
+use Rattle.std.specs.Prelude.{Ok}
 use Rattle.effect.specs.Memory.{Global, Shared, State, write}
 use Rattle.effect.specs.Effect.{Effect, nothing, load, store, copy, bulk_copy, bulk_reduction, does}
 use Rattle.effect.proofs.Memories.{write-append}
 use Rattle.rules.specs.Events.{effect_of}
 use Rattle.rules.specs.Closing.{all_of}
-use Rattle.rules.specs.Faults.{Lengths}
+use Rattle.rules.specs.declared.Lengths.{Lengths}
 use Rattle.rules.specs.Orders.{Action, actions_of, PermittedOrder}
 use Rattle.rules.specs.Outcomes.{load_of, loads_of}
 use Rattle.rules.specs.Answers.{answer_of_events}
@@ -85,7 +85,7 @@ abbrev finished : List Event → State → List ℕ → ℕ → Memories
 finished es s loads filled =
     memories (lasts es s).global (lasts es s).shared (write loads filled (read_all es s)) (filled + length (read_all es s))
 
-all-acted : (es : List Event) (m : Memories) → acted_all (map Decoded es) m ≡ finished es (state_of m) m.loads m.filled
+all-acted : (es : List Event) (m : Memories) → acted_all (map Ok es) m ≡ finished es (state_of m) m.loads m.filled
 unfolding acted
 all-acted [] m = ap (memories m.global m.shared m.loads) (sym (add-zero m.filled))
 all-acted (e ∷ es) m =
@@ -100,9 +100,9 @@ all-acted (e ∷ es) m =
 
 -- ---- in every permitted order
 pub every_order : (lengths : Lengths) (es : List Event) (before : Lent) → IsAccepted (answer_of_events lengths es)
-    → load_bytes (map Decoded es) ≤ length before.load_record
+    → load_bytes (map Ok es) ≤ length before.load_record
     → (order : List Action) → PermittedOrder es order
-    → left (acted_all (map Decoded es) (memories before.global before.shared before.load_record 0)) ≡ leaves es order before
+    → left (acted_all (map Ok es) (memories before.global before.shared before.load_record 0)) ≡ leaves es order before
 every_order lengths es before accepted room order permitted =
     ap left (all-acted es m)
     ∙ ap (lent (lasts es s).global (lasts es s).shared) in_record
@@ -116,7 +116,7 @@ every_order lengths es before accepted room order permitted =
     s = state_of m
 
     few : 0 + length (read_all es s) ≤ length before.load_record
-    few = let filled = ap (λ (n : Memories). n.filled) (all-acted es m) in omega (arith, filled, fills (map Decoded es) m, room)
+    few = let filled = ap (λ (n : Memories). n.filled) (all-acted es m) in omega (arith, filled, fills (map Ok es) m, room)
 
     in_record : write before.load_record 0 (read_all es s) ≡ read_all es s ++ drop (length (read_all es s)) before.load_record
     in_record = sets-eq (read_all es s) before.load_record 0 few ∙ ap (λ n. read_all es s ++ drop n before.load_record) (zero-add (length (read_all es s)))

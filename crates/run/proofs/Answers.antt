@@ -5,25 +5,22 @@ use native.Mathlib.Omega.{arith}
 use mathlib.Core.Path.{◌≡◌, refl, sym, ap, ap₂, subst, ◌∙◌}
 use mathlib.Core.Bool.{Bool, true, false}
 use mathlib.Core.List.{List}
-use lib.Dec.{eqb}
 use lib.ListN.{length, take}
 use borrow.Author.Tests.{eqb-true, eqb-false, eq-eqb, ne_eqb, le-leb, lt-leb}
-use Rattle.little_endian.proofs.Tests.{both}
 use Rattle.answer.specs.declared.Answer.{Answer}
 use Rattle.answer.specs.declared.Answer.TheVariants as answer
 use Rattle.answer.specs.Table.{event_limit}
 use Rattle.answer.specs.Codes.{code_of, IsAccepted, is_accepted}
-use Rattle.decoder.specs.declared.Item.{Item}
+use Rattle.decoder.specs.Item.{Item}
 use Rattle.trace.specs.declared.Header.{Header}
-use Rattle.trace.specs.declared.Shape.{Shape}
-use Rattle.trace.specs.declared.Shape.TheVariants.{Formed, Refused}
+use Rattle.trace.specs.File.{Shape}
+use Rattle.std.specs.Prelude.{Ok, Err}
 use Rattle.trace.specs.File.{shape_of, first_items, item_in, Contents, refused, recorded, contents_of, file_of}
 use Rattle.trace.specs.Beginning.{enough, held_item_in, held_contents, held_of}
-use Rattle.trace.proofs.Faults.{length-first}
 use Rattle.trace.proofs.Held.{shape_decided}
+use Rattle.rules.specs.declared.Lengths.{Lengths}
 use Rattle.rules.specs.Answers.{answer_of, lengths_in}
-use Rattle.judge.specs.Beginnings.{answer_of_beginning}
-use Rattle.judge.proofs.Beginnings.{beginning_items, beginning_judged, told_shape, Says, shapeless, says}
+use Rattle.judge.proofs.Beginnings.{beginning_items, beginning_judged, Says, shapeless, says}
 use Rattle.moves.specs.Acting.{memories}
 use Rattle.run.specs.Running.{Lent, load_bytes, or_no_room, are_lent, answer_of_run, Ran}
 use Rattle.run.specs.Acting.{acted_all, left}
@@ -104,75 +101,46 @@ ran_accepted header items before h accepts fits = record {
       ∙ every_order (lengths_in header) es before (rw are at accepts) (rw are at fits) order permitted;
 }
 
--- ---- by the file's beginning
-held_shape : (f : List ℕ) (total : ℕ) (s : Shape) → shape_of event_limit f total ≡ s → held_of event_limit f total ≡ held_contents f s
-unfolding held_of
-held_shape f total s e = ap (held_contents f) e
+-- ---- a run of what the file says
+pub shape_refused : (f : List ℕ) (total : ℕ) (before : Lent) (a : Answer) → held_of event_limit f total ≡ refused a
+    → Ran (held_of event_limit f total) before a before
+shape_refused f total before a contents =
+    rw contents (ran_refused (refused a) before a (run-refused a before) (refusal_of_lem (rw contents at (says f total))))
+  where
+    refusal_of_lem : Says (refused a) → ¬ IsAccepted a
+    refusal_of_lem (shapeless refuses fits) = refuses
 
-module _ (f : List ℕ) (total : ℕ) (before : Lent) where
-  pub shape_refused : (a : Answer) → shape_of event_limit f total ≡ Refused a → Ran (held_of event_limit f total) before a before
-  shape_refused a e =
-      let contents = held_shape f total (Refused a) e in
-      rw contents (ran_refused (refused a) before a (run-refused a before) (refusal_of_lem (rw contents at (says f total))))
-    where
-      refusal_of_lem : Says (refused a) → ¬ IsAccepted a
-      refusal_of_lem (shapeless refuses fits) = refuses
+module _ (header : Header) (items : List Item) (before : Lent) where
+  pub not-lent : are_lent header before ≡ false → Ran (recorded header items) before answer.WrongMemoryLength before
+  not-lent h = ran_refused (recorded header items) before answer.WrongMemoryLength (run-not-lent header items before h) (λ q. omega (arith, q))
 
-  module _ (header : Header) (shape : shape_of event_limit f total ≡ Formed header) where
-    abbrev items : List Item
-    items = first_items (held_item_in f) header.events
+  module _ (h : are_lent header before ≡ true) (a : Answer) (judged : a ≡ answer_of (lengths_in header) items) where
+    pub lent-refused : ¬ IsAccepted a → Ran (recorded header items) before a before
+    lent-refused refuses =
+        ran_refused (recorded header items) before a (judged ∙ run-judged header items before h (rw (← judged) refuses)) refuses
 
-    contents : held_of event_limit f total ≡ recorded header items
-    contents = held_shape f total (Formed header) shape
+    module _ (accepts : IsAccepted a) where
+      pub lent_no_room : length before.load_record < load_bytes items → Ran (recorded header items) before (answer.NoRoom (length items)) before
+      lent_no_room over =
+          ran_refused (recorded header items) before (answer.NoRoom (length items))
+          (run_no_room header items before h (rw (← judged) accepts) over) (λ q. omega (arith, q))
 
-    pub not-lent : are_lent header before ≡ false → Ran (held_of event_limit f total) before answer.WrongMemoryLength before
-    not-lent h =
-        rw contents
-        (ran_refused (recorded header items) before answer.WrongMemoryLength (run-not-lent header items before h) (λ q. omega (arith, q)))
-
-    module _ (h : are_lent header before ≡ true) (a : Answer) (e : a ≡ answer_of_beginning f total) where
-      judged : a ≡ answer_of (lengths_in header) items
-      judged = e ∙ told_shape f total (Formed header) shape
-
-      pub lent-refused : ¬ IsAccepted a → Ran (held_of event_limit f total) before a before
-      lent-refused refuses =
-          rw contents
-          (ran_refused (recorded header items) before a
-          (judged ∙ run-judged header items before h (rw (← judged) refuses)) refuses)
-
-      module _ (accepts : IsAccepted a) where
-        pub judged-accepts : IsAccepted (answer_of (lengths_in header) items)
-        judged-accepts = rw (← judged) accepts
-
-        pub lent_no_room : length before.load_record < load_bytes items → Ran (held_of event_limit f total) before (answer.NoRoom header.events) before
-        lent_no_room over =
-            let count = ap answer.NoRoom (sym (length-first (held_item_in f) header.events)) in
-            rw contents
-            (ran_refused (recorded header items) before (answer.NoRoom header.events)
-            (count ∙ run_no_room header items before h judged-accepts over) (λ q. omega (arith, q)))
-
-        pub lent-run : load_bytes items ≤ length before.load_record → (after : Lent)
-            → after ≡ left (acted_all items (memories before.global before.shared before.load_record 0))
-            → Ran (held_of event_limit f total) before a after
-        lent-run fits after is = rw (contents, judged, is) (ran_accepted header items before h judged-accepts fits)
+      pub lent-run : load_bytes items ≤ length before.load_record → (after : Lent)
+          → after ≡ left (acted_all items (memories before.global before.shared before.load_record 0))
+          → Ran (recorded header items) before a after
+      lent-run fits after is = rw (judged, is) (ran_accepted header items before h (rw (← judged) accepts) fits)
 
 -- a header with the lengths of what is lent
-pub lent-lengths : (events : ℕ) (before : Lent)
-    → are_lent (record { events = events; global = length before.global; shared = length before.shared }) before ≡ true
-lent-lengths events before =
-    rw (eq-eqb (length before.global) (length before.global) refl, eq-eqb (length before.shared) (length before.shared) refl)
-
-pub lent-header : (header : Header) (before : Lent) → are_lent header before ≡ true
-    → header ≡ record { events = header.events; global = length before.global; shared = length before.shared }
-lent-header header before h =
-    let t = both (eqb header.global (length before.global)) (eqb header.shared (length before.shared)) h in
-    let g = eqb-true header.global (length before.global) t.0 in
-    let s = eqb-true header.shared (length before.shared) t.1 in
-    ap₂ (λ m n. record { events = header.events; global = m; shared = n }) g s
+pub lent-lengths : (header : Header) (before : Lent)
+    → lengths_in header ≡ record { global = length before.global; shared = length before.shared } → are_lent header before ≡ true
+lent-lengths header before e =
+    let g = ap (λ (l : Lengths). l.global) e in
+    let s = ap (λ (l : Lengths). l.shared) e in
+    rw (eq-eqb header.global (length before.global) g, eq-eqb header.shared (length before.shared) s)
 
 module _ (f : List ℕ) (k : ℕ) (long : enough event_limit ≤ k) {before after : Lent} {a : Answer} where
   -- where the beginning and the file hold different items, both are refused alike
-  carried-items : (header : Header) → shape_of event_limit f (length f) ≡ Formed header
+  carried-items : (header : Header) → shape_of event_limit f (length f) ≡ Ok header
       → Ran (recorded header (first_items (held_item_in (take k f)) header.events)) before a after
       → Ran (recorded header (first_items (item_in f) header.events)) before a after
   carried-items header e ran = by_acceptance (is_accepted judged) refl
@@ -207,16 +175,16 @@ module _ (f : List ℕ) (k : ℕ) (long : enough event_limit ≤ k) {before afte
           (ran_refused (recorded header whole) before a (ran.answers ∙ by_lent refuses (are_lent header before) refl) none)
 
   carried : Ran (held_of event_limit (take k f) (length f)) before a after → Ran (file_of event_limit f) before a after
-  unfolding file_of
+  unfolding held_of file_of
   carried ran = by_shape (shape_of event_limit f (length f)) refl (rw contents at ran)
     where
       contents : held_of event_limit (take k f) (length f) ≡ held_contents (take k f) (shape_of event_limit f (length f))
-      contents = held_shape (take k f) (length f) _ (shape_decided event_limit k f long)
+      contents = ap (held_contents (take k f)) (shape_decided event_limit k f long)
 
       by_shape : (s : Shape) → shape_of event_limit f (length f) ≡ s
           → Ran (held_contents (take k f) s) before a after → Ran (contents_of f s) before a after
-      by_shape (Refused refusal) e r = r
-      by_shape (Formed header) e r = carried-items header e r
+      by_shape (Err refusal) e r = r
+      by_shape (Ok header) e r = carried-items header e r
 
 -- what is promised of a beginning
 pub told : (f : List ℕ) (total : ℕ) {before after : Lent} {a : Answer} → Ran (held_of event_limit f total) before a after

@@ -16,13 +16,13 @@ use Rattle.answer.specs.declared.Answer.TheVariants as answer
 use Rattle.answer.specs.Table.{event_limit, fit_named, fit}
 use Rattle.answer.specs.Codes.{code_of, IsAccepted, is_accepted}
 use Rattle.event.specs.declared.Event.{Event}
-use Rattle.decoder.specs.declared.Item.{Item}
-use Rattle.decoder.specs.declared.Item.TheVariants.{Decoded}
+use Rattle.decoder.specs.Item.{Item}
+use Rattle.std.specs.Prelude.{Ok}
 use Rattle.trace.specs.declared.Header.{Header}
 use Rattle.trace.specs.File.{Contents, recorded, file_of}
 use Rattle.trace.specs.Beginning.{held_of}
 use Rattle.trace.proofs.Held.{held_whole_lem}
-use Rattle.rules.specs.Faults.{Lengths}
+use Rattle.rules.specs.declared.Lengths.{Lengths}
 use Rattle.rules.specs.Orders.{actions_of}
 use Rattle.rules.specs.Answers.{answer_of, lengths_in, answer_of_file}
 use Rattle.rules.specs.Waited.{Waited, MayAdd, Lowered}
@@ -159,7 +159,7 @@ as_judged f lengths items before holds g s either =
     by_way (inr refuses) t e = sym (run-judged header items before h (rw (answer-recorded f _ items holds) at refuses))
 
 -- ---- more waiting
-same-loads : {es es' : List Event} → Waited es es' → load_bytes (map Decoded es') ≡ load_bytes (map Decoded es)
+same-loads : {es es' : List Event} → Waited es es' → load_bytes (map Ok es') ≡ load_bytes (map Ok es)
 same-loads waited.done = refl
 same-loads (waited.keep lowered rest) = ap₂ ◌+◌ (same_size lowered) (same-loads rest)
   where
@@ -187,15 +187,15 @@ more_waiting_in_runs f f' lengths es es' holds holds' w before a a' after after'
     headed : ℕ → Header
     headed n = record { events = n; global = lengths.global; shared = lengths.shared }
 
-    first : Accepted (headed (length (map Decoded es))) (map Decoded es) before
-    first = told-accepted (headed (length (map Decoded es))) (map Decoded es) before (rw (← ran.answers ∙ ap (λ c. answer_of_run c before) holds) accepts)
+    first : Accepted (headed (length {A = Item} (map Ok es))) (map Ok es) before
+    first = told-accepted (headed (length {A = Item} (map Ok es))) (map Ok es) before (rw (← ran.answers ∙ ap (λ c. answer_of_run c before) holds) accepts)
 
     in_file : IsAccepted (answer_of_file f)
-    in_file = rw (answer-recorded f _ (map Decoded es) holds) first.judged
+    in_file = rw (answer-recorded f _ (map Ok es) holds) first.judged
 
-    judged' : IsAccepted (answer_of lengths (map Decoded es'))
-    judged' = rw (answer-recorded f' _ (map Decoded es') holds') at (still-accepted-file f f' lengths es es' holds holds' w in_file)
+    judged' : IsAccepted (answer_of lengths (map Ok es'))
+    judged' = rw (answer-recorded f' _ (map Ok es') holds') at (still-accepted-file f f' lengths es es' holds holds' w in_file)
 
     accepts' : IsAccepted a'
     accepts' =
-        rw (ran'.answers, holds', ← run_room (headed (length (map Decoded es'))) (map Decoded es') before first.are_lent_lem judged' (rw (same-loads w) first.fits)) judged'
+        rw (ran'.answers, holds', ← run_room (headed (length {A = Item} (map Ok es'))) (map Ok es') before first.are_lent_lem judged' (rw (same-loads w) first.fits)) judged'

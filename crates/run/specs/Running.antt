@@ -1,11 +1,10 @@
 -- What a run of a file over two lent memories and a load record gives.
-use Rattle.std.specs.Prelude.{ℕ, ◌+◌, ◌≡◌, Bool, not, ◌&&◌, cond, List, [], ◌∷◌, ◌++◌, map, eqb, leb, length, drop}
+use Rattle.std.specs.Prelude.{ℕ, ◌+◌, ◌≡◌, Bool, not, ◌&&◌, cond, List, [], ◌∷◌, ◌++◌, map, eqb, leb, length, drop, Ok, Err}
 use Rattle.answer.specs.Codes.{IsAccepted, is_accepted}
 use Rattle.answer.specs.declared.Answer.{Answer}
 use Rattle.answer.specs.declared.Answer.TheVariants.{WrongMemoryLength, NoRoom}
 use Rattle.event.specs.declared.Event.{Event}
-use Rattle.decoder.specs.declared.Item.{Item}
-use Rattle.decoder.specs.declared.Item.TheVariants.{Decoded, UnknownKind, WrongBodyLength, FieldNotAllowed}
+use Rattle.decoder.specs.Item.{Item}
 use Rattle.trace.specs.declared.Header.{Header}
 use Rattle.trace.specs.File.{Contents, refused, recorded}
 use Rattle.rules.specs.Closing.{all_of}
@@ -28,10 +27,8 @@ lent global shared load_record = record { global = global; shared = shared; load
 
 -- The bytes that an item loads.
 abbrev pub load_size_of : Item → ℕ
-load_size_of (Decoded e) = load_size e
-load_size_of UnknownKind = 0
-load_size_of WrongBodyLength = 0
-load_size_of FieldNotAllowed = 0
+load_size_of (Ok e) = load_size e
+load_size_of (Err undecoded) = 0
 
 -- The loads' total bytes.
 abbrev pub load_bytes : List Item → ℕ
@@ -74,5 +71,5 @@ pub record Ran (contents : Contents) (before : Lent) (answer : Answer) (after : 
   -- A refusal writes nothing.
   pub refusal : ¬ IsAccepted answer → after ≡ before
   -- An accepted file leaves what every permitted order of its events gives.
-  pub acceptance : IsAccepted answer → (header : Header) (es : List Event) → contents ≡ recorded header (map Decoded es)
+  pub acceptance : IsAccepted answer → (header : Header) (es : List Event) → contents ≡ recorded header (map Ok es)
       → (order : List Action) → PermittedOrder es order → after ≡ leaves es order before

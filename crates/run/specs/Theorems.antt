@@ -1,15 +1,14 @@
 -- What holds of a run. Each statement is a type; proofs/Theorems.antt proves it, as `one_run : OneRun`.
-use Rattle.std.specs.Prelude.{ℕ, ◌≤◌, ◌≡◌, ◌⊎◌, List, map, length}
+use Rattle.std.specs.Prelude.{ℕ, ◌≤◌, ◌≡◌, ◌⊎◌, List, map, length, Ok}
 use Rattle.answer.specs.declared.Answer.{Answer}
 use Rattle.answer.specs.Table.{event_limit}
 use Rattle.answer.specs.Sheet.{Given}
 use Rattle.answer.specs.Codes.{IsAccepted}
 use Rattle.event.specs.declared.Event.{Event}
-use Rattle.decoder.specs.declared.Item.{Item}
-use Rattle.decoder.specs.declared.Item.TheVariants.{Decoded}
+use Rattle.decoder.specs.Item.{Item}
 use Rattle.trace.specs.File.{Contents, file_of}
 use Rattle.trace.specs.Beginning.{held_of}
-use Rattle.rules.specs.Faults.{Lengths}
+use Rattle.rules.specs.declared.Lengths.{Lengths}
 use Rattle.rules.specs.Answers.{answer_of_file, Records}
 use Rattle.rules.specs.Waited.{Waited}
 use Rattle.run.specs.Running.{Lent, load_bytes, answer_of_run, Ran}
@@ -48,6 +47,6 @@ AsJudged =
 unfoldable pub MoreWaitingInRuns : Type 0
 MoreWaitingInRuns =
     (f f' : List ℕ) (lengths : Lengths) (es es' : List Event)
-    → Records f lengths (map Decoded es) → Records f' lengths (map Decoded es') → Waited es es'
+    → Records f lengths (map Ok es) → Records f' lengths (map Ok es') → Waited es es'
     → (before : Lent) (a a' : Answer) (after after' : Lent) → RanFile f before a after → RanFile f' before a' after'
     → IsAccepted a → IsAccepted a' × (after' ≡ after)

@@ -5,10 +5,10 @@ use mathlib.Core.Path.{◌≡◌, refl, sym, ap, ap₂, ◌∙◌}
 use mathlib.Core.Bool.{Bool, true, false, ◌&&◌}
 use mathlib.Core.List.{◌∷◌, [], ◌++◌}
 use native.Mathlib.Omega.{arith}
-use Rattle.decoder.specs.declared.Item.{Item}
+use Rattle.decoder.specs.Item.{Item}
 use Rattle.decoder.specs.Kinds.{refusal_of, is_decoded}
-use Rattle.trace.specs.declared.Shape.{Shape}
-use Rattle.trace.specs.declared.Shape.TheVariants.{Refused}
+use Rattle.trace.specs.File.{Shape}
+use Rattle.std.specs.Prelude.{Err}
 use Rattle.trace.specs.File.{first_items}
 use Rattle.trace.specs.Beginning.{or_fault}
 use Rattle.trace.proofs.Faults.{all_decoded, all_append, found}
@@ -51,5 +51,5 @@ module _ (a b : ℕ → Item) where
       by_way (same e d) = ap (λ l. or_fault 0 l s) e
       by_way (up_to k l e d q h) =
           found b k n s l (ap all_decoded e ∙ d) (ap is_decoded q ∙ h)
-          ∙ ap (λ item. Refused (refusal_of k item)) q
+          ∙ ap (λ item. Err (refusal_of k item)) q
           ∙ sym (found a k n s l d h)

@@ -1,30 +1,60 @@
 -- What the first entries come to with one more, what is held of a file, and the way from one body to the next.
 -- Assumes nothing.
-use Prim.Native.Nat.{ℕ, ◌+◌, ◌-◌, ◌≤◌, ◌<◌}
-use mathlib.Core.Path.{◌≡◌, ap, ap₂, ◌∙◌}
-use mathlib.Core.Bool.{◌&&◌}
-use mathlib.Core.List.{List, [], ◌∷◌, ◌++◌}
+use Prim.Native.Nat.{ℕ, zero, suc, ◌+◌, ◌*◌, ◌-◌, ◌≤◌, ◌<◌}
+use mathlib.Core.Path.{◌≡◌, refl, sym, ap, ap₂, ◌∙◌}
+use mathlib.Core.Bool.{◌&&◌, and-true}
+use mathlib.Core.List.{List, [], ◌∷◌, ◌++◌, map, append_assoc}
 use native.Mathlib.Omega.{arith}
 use native.Mathlib.Numerals.{add-one}
-use lib.ListN.{length, take, drop}
+use Rattle.std.specs.List.{sum, list_all, range_with_len}
+use Rattle.std.proofs.lemmas.List.Folds.{list_all-append}
+use Rattle.std.proofs.lemmas.List.FromFn.{sum_by-map-range_with_len_more}
+use Rattle.little_endian.specs.Number.{Bytes}
+use Rattle.little_endian.proofs.Widths.{bounded}
+use native.Mathlib.Nat.{add-zero, zero-add}
+use lib.ListN.{length, take, drop, drop_of_length-le}
+use Rattle.std.proofs.lemmas.List.{drop_at}
 use borrow.Author.Tests.{le-leb, lt-leb}
-use Rattle.decoder.specs.declared.Item.{Item}
 use Rattle.trace.specs.declared.Entry.{Entry}
-use Rattle.trace.specs.File.{entry_at, kind_in, entry_zero, body_length_in, entries_zero, body_lengths, body_start, first_items}
+use Rattle.trace.specs.File.{entry_at, kind_in, entry_zero, body_length_in, entries_zero, body_lengths, first_items}
 use Rattle.decoder.specs.Kinds.{decode_of, overlong}
-use Rattle.trace.specs.Beginning.{entry_in, held_item, held_item_in}
+use Rattle.trace.specs.Beginning.{entry_in, held_item, held_item_in, IsAtBody, items_from}
+use Rattle.trace.proofs.Faults.{length-first, further}
 
 pub more-lengths : (f : List ℕ) (i : ℕ) → body_lengths f (i + 1) ≡ body_lengths f i + body_length_in f i
 unfolding body_lengths
 more-lengths f i = rw add-one
 
-pub more-zero : (f : List ℕ) (i : ℕ) → entries_zero f (i + 1) ≡ (entries_zero f i && entry_zero f i)
-unfolding entries_zero
-more-zero f i = rw add-one
+-- The body lengths together are their sum, and no larger than the largest each.
+pub lengths_added : (f : List ℕ) (n : ℕ) → sum (map (body_length_in f) (range_with_len 0 n)) ≡ body_lengths f n
+unfolding body_lengths
+lengths_added f zero = refl
+lengths_added f (suc n) =
+    let more = sum_by-map-range_with_len_more (λ x. x) (body_length_in f) 0 n n (zero-add n) in
+    rw add-one at more ∙ ap (λ m. m + body_length_in f n) (lengths_added f n)
 
-pub more-items : (item : ℕ → Item) (i : ℕ) → first_items item (i + 1) ≡ first_items item i ++ item i ∷ []
-unfolding first_items
-more-items item i = rw add-one
+pub lengths_fit : (f : List ℕ) (n : ℕ) → Bytes f → body_lengths f n ≤ 65535 * n
+unfolding body_lengths
+lengths_fit f zero bytes = omega arith
+lengths_fit f (suc n) bytes =
+    let rest = lengths_fit f n bytes in
+    let last = bounded 2 f (entry_at n + 2) bytes in
+    omega arith
+
+-- All are zero where each is.
+one_further : (a n : ℕ) → range_with_len a (suc n) ≡ range_with_len a n ++ (a + n) ∷ []
+one_further a zero = rw add-zero
+one_further a (suc n) =
+    let same : a + 1 + n ≡ a + suc n = omega arith in
+    ap (λ l. a ∷ l) (one_further (a + 1) n ∙ ap (λ m. range_with_len (a + 1) n ++ m ∷ []) same)
+
+pub each-zero : (f : List ℕ) (n : ℕ) → list_all (entry_zero f) (range_with_len 0 n) ≡ entries_zero f n
+unfolding entries_zero
+each-zero f zero = refl
+each-zero f (suc n) =
+    ap (list_all (entry_zero f)) (one_further 0 n)
+    ∙ list_all-append (entry_zero f) (range_with_len 0 n) ((0 + n) ∷ [])
+    ∙ rw (zero-add n) (ap₂ (λ s t. s && t) (each-zero f n) (and-true (entry_zero f n)))
 
 -- An entry that is held is read whole.
 pub whole_entry : (f : List ℕ) (i : ℕ) → entry_at i + 4 ≤ length f
@@ -33,20 +63,46 @@ unfolding entry_in
 whole_entry f i h = rw (le-leb (entry_at i + 4) (length f) h)
 
 pub held : (f : List ℕ) (start : ℕ) (entry : Entry) → start + entry.length ≤ length f
-    → decode_of entry.kind (take (start + entry.length - start) (drop start f)) ≡ held_item f start entry
+    → decode_of entry.kind (take entry.length (drop start f)) ≡ held_item f start entry
 unfolding held_item
-held f start entry h =
-    let part : start + entry.length - start ≡ entry.length = omega arith in
-    rw (part, le-leb (start + entry.length) (length f) h)
+held f start entry h = rw (le-leb (start + entry.length) (length f) h)
 
 pub not-held : (f : List ℕ) (start : ℕ) (entry : Entry) → length f < start + entry.length
     → held_item f start entry ≡ overlong entry.kind
 unfolding held_item
 not-held f start entry h = rw (lt-leb (start + entry.length) (length f) h)
 
+-- What is left of a walk: at its start all, at its end nothing, and in between the next item and what is left after it.
+pub all_left : (f : List ℕ) (n : ℕ) → items_from f n 0 ≡ first_items (held_item_in f) n
+unfolding items_from
+all_left f n = refl
+
+pub none_left : (f : List ℕ) (n i : ℕ) → n ≤ i → items_from f n i ≡ []
+unfolding items_from
+none_left f n i past = drop_of_length-le (first_items (held_item_in f) n) (rw (length-first (held_item_in f) n) past)
+
+pub one_left : (f : List ℕ) (n i : ℕ) → i < n → items_from f n i ≡ held_item_in f i ∷ items_from f n (i + 1)
+unfolding items_from first_items
+one_left f n i few =
+    let item = held_item_in f in
+    let (rest, e) = further item (suc i) (n - suc i) in
+    let all : suc i + (n - suc i) ≡ n = omega arith in
+    let split = ap (first_items item) (sym all) ∙ e in
+    let first = ap (drop i) (split ∙ append_assoc (first_items item i) (item i ∷ []) rest)
+    ∙ drop_at (first_items item i) (item i ∷ rest) i (length-first item i) in
+    let later = ap (drop (i + 1)) split ∙ drop_at (first_items item (suc i)) rest (i + 1) (length-first item (suc i) ∙ omega arith) in
+    first ∙ ap (λ l. item i ∷ l) (sym later)
+
 -- A walk that is at the body of event i has its item, and comes to the next body.
-pub walked : (f : List ℕ) (i start : ℕ) (entry : Entry) → start ≡ body_start f i → entry ≡ entry_in f i → entry_at i + 4 ≤ length f
-    → (held_item f start entry ≡ held_item_in f i) × (start + entry.length ≡ body_start f (i + 1))
-walked f i start entry at is table =
-    let added = ap (λ (e : Entry). e.length) (is ∙ whole_entry f i table) in
-    (ap₂ (held_item f) at is, omega (arith, at, added, more-lengths f i))
+pub walked : (f : List ℕ) (n i start : ℕ) (entry : Entry) → IsAtBody f n i start → i < n → entry ≡ entry_in f i → entry.length < 4294967296
+    → (held_item f start entry ≡ held_item_in f i) × IsAtBody f n (i + 1) (start + entry.length)
+walked f n i start entry at few is fits =
+    let table : entry_at i + 4 ≤ length f = omega (arith, at.table.held) in
+    let added = ap (λ (e : Entry). e.length) (is ∙ whole_entry f i table) in (
+      ap₂ (held_item f) at.starts is,
+      record {
+        table = at.table;
+        starts = omega (arith, at.starts, added, more-lengths f i);
+        near = omega (arith, at.near);
+      },
+    )

@@ -6,12 +6,11 @@ use mathlib.Core.Bool.{Bool, true, false, ◌&&◌, and_assoc}
 use mathlib.Core.List.{List, [], ◌∷◌, ◌++◌, append_assoc, append-nil}
 use native.Mathlib.Omega.{arith}
 use native.Mathlib.Nat.{add-zero, zero-add, add-suc}
-use native.Mathlib.Numerals.{add-one}
 use lib.ListN.{length, length-append}
 use Rattle.little_endian.proofs.Tests.{both}
-use Rattle.decoder.specs.declared.Item.{Item}
-use Rattle.trace.specs.declared.Shape.{Shape}
-use Rattle.trace.specs.declared.Shape.TheVariants.{Refused}
+use Rattle.decoder.specs.Item.{Item}
+use Rattle.trace.specs.File.{Shape}
+use Rattle.std.specs.Prelude.{Err}
 use Rattle.trace.specs.File.{first_items}
 use Rattle.decoder.specs.Kinds.{refusal_of, is_decoded}
 use Rattle.trace.specs.Beginning.{or_fault}
@@ -49,7 +48,7 @@ further item i (suc d) =
 
 -- The search comes to the first item that does not decode.
 pub found : (item : ℕ → Item) (i n : ℕ) (s : Shape) → i < n → all_decoded (first_items item i) ≡ true → is_decoded (item i) ≡ false
-    → or_fault 0 (first_items item n) s ≡ Refused (refusal_of i (item i))
+    → or_fault 0 (first_items item n) s ≡ Err (refusal_of i (item i))
 unfolding first_items
 found item i n s h decoded fault =
     let (rest, e) = further item (suc i) (n - suc i) in
@@ -58,13 +57,3 @@ found item i n s h decoded fault =
     ap (first_items item) (sym all) ∙ e ∙ append_assoc (first_items item i) (item i ∷ []) rest in
     let here : 0 + length (first_items item i) ≡ i = rw (length-first item i) (zero-add i) in
     rw (split, goes_on_lem 0 (first_items item i) (item i ∷ rest) s decoded, here, fault)
-
--- Where every item decodes, it finds none.
-pub none : (item : ℕ → Item) (n : ℕ) (s : Shape) → all_decoded (first_items item n) ≡ true → or_fault 0 (first_items item n) s ≡ s
-none item n s decoded = rw (← append-nil (first_items item n)) (goes_on_lem 0 (first_items item n) [] s decoded)
-
--- One item more decodes with the others.
-pub one_more : (item : ℕ → Item) (i : ℕ) → all_decoded (first_items item i) ≡ true → is_decoded (item i) ≡ true
-    → all_decoded (first_items item (i + 1)) ≡ true
-unfolding first_items
-one_more item i decoded h = rw (add-one, all_append, decoded, h)

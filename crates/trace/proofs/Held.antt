@@ -14,11 +14,11 @@ use Rattle.answer.specs.declared.Answer.TheVariants.{WrongShape, TooManyEvents, 
 use Rattle.little_endian.specs.Number.{number_at}
 use Rattle.little_endian.proofs.Tests.{both, all_three}
 use Rattle.little_endian.proofs.Widths.{number-take}
-use Rattle.decoder.specs.declared.Item.{Item}
-use Rattle.decoder.specs.declared.Item.TheVariants.{UnknownKind, WrongBodyLength}
+use Rattle.decoder.specs.Item.{Item}
+use Rattle.std.specs.Prelude.{Err, Ok}
+use Rattle.decoder.specs.declared.Undecoded.TheVariants.{UnknownKind, WrongBodyLength}
 use Rattle.trace.specs.declared.Header.{Header}
-use Rattle.trace.specs.declared.Shape.{Shape}
-use Rattle.trace.specs.declared.Shape.TheVariants.{Formed, Refused}
+use Rattle.trace.specs.File.{Shape}
 use Rattle.decoder.specs.Kinds.{in_ranges, is_decoded, overlong}
 use Rattle.trace.specs.File.{events_in, header_in, reserved_zero, entry_at, kind_in, body_length_in, entries_zero, body_lengths, body_start, body_in, is_shape, is_memory_length, first, shape_of, first_items, item_in, recorded, contents_of, file_of}
 use Rattle.trace.specs.Beginning.{enough, held_item, held_item_in, held_contents, held_of, checked_file, check_of}
@@ -47,7 +47,7 @@ inside f i h few =
     omega arith
 
 -- A file that is held whole has its own items ..
-whole_item : (limit : ℕ) (f : List ℕ) (h : Header) (i : ℕ) → shape_of limit f (length f) ≡ Formed h → i < h.events
+whole_item : (limit : ℕ) (f : List ℕ) (h : Header) (i : ℕ) → shape_of limit f (length f) ≡ Ok h → i < h.events
     → held_item_in f i ≡ item_in f i
 unfolding held_item
 whole_item limit f h i e few =
@@ -68,8 +68,8 @@ unfolding held_of file_of
 held_whole_lem limit f = by_shape (shape_of limit f (length f)) refl
   where
     by_shape : (s : Shape) → shape_of limit f (length f) ≡ s → held_contents f s ≡ contents_of f s
-    by_shape (Refused answer) e = refl
-    by_shape (Formed h) e =
+    by_shape (Err answer) e = refl
+    by_shape (Ok h) e =
         ap (recorded h) (same-items (item_in f) (held_item_in f) h.events (λ i few. whole_item limit f h i e few))
 
 -- A beginning of k bytes has the file's bytes up to there.
@@ -131,7 +131,7 @@ shape_decided limit k f h =
         first (leb 12 (length f) && true) WrongShape
         (first few TooManyEvents
         (first shape WrongShape
-        (first (is_memory_length (header_in f).global && is_memory_length (header_in f).shared) WrongMemoryLength (Formed (header_in f)))))
+        (first (is_memory_length (header_in f).global && is_memory_length (header_in f).shared) WrongMemoryLength (Ok (header_in f)))))
 
     go : (t : Bool) → leb (events_in f) limit ≡ t
         → checks (leb (events_in f) limit) (is_shape (take k f) (length f)) ≡ checks (leb (events_in f) limit) (is_shape f (length f))
@@ -146,7 +146,7 @@ overlong-fault : (kind : ℕ) → is_decoded (overlong kind) ≡ false
 unfolding overlong
 overlong-fault kind = go (in_ranges kind) refl
   where
-    go : (t : Bool) → in_ranges kind ≡ t → is_decoded (cond t WrongBodyLength UnknownKind) ≡ false
+    go : (t : Bool) → in_ranges kind ≡ t → is_decoded (cond t (Err WrongBodyLength) (Err UnknownKind)) ≡ false
     go true e = refl
     go false e = refl
 
@@ -193,7 +193,7 @@ module _ (limit k : ℕ) (f : List ℕ) (i : ℕ) (long : enough limit ≤ k) (m
       (sym (long_body (kind_in f i) (body_in f i) (rw (length_body f i within) over)))
 
 -- Up to the first item that does not decode, the beginning has the file's items.
-pub items-there : (limit k : ℕ) (f : List ℕ) (h : Header) → enough limit ≤ k → shape_of limit f (length f) ≡ Formed h
+pub items-there : (limit k : ℕ) (f : List ℕ) (h : Header) → enough limit ≤ k → shape_of limit f (length f) ≡ Ok h
     → Following (item_in f) (held_item_in (take k f)) h.events
 items-there limit k f h long e i few decoded =
     let p = formed limit (length f) f h e in
@@ -218,6 +218,6 @@ unfolding check_of held_of file_of
 check_decided limit k f long = rw (shape_decided limit k f long) (go (shape_of limit f (length f)) refl)
   where
     go : (s : Shape) → shape_of limit f (length f) ≡ s → checked_file (held_contents (take k f) s) ≡ checked_file (contents_of f s)
-    go (Refused answer) e = refl
-    go (Formed h) e =
-        same-fault (item_in f) (held_item_in (take k f)) h.events (Formed h) (items-there limit k f h long e)
+    go (Err answer) e = refl
+    go (Ok h) e =
+        same-fault (item_in f) (held_item_in (take k f)) h.events (Ok h) (items-there limit k f h long e)

@@ -4,6 +4,7 @@ use Prim.Native.Nat.{ℕ, ◌≤◌, ◌<◌}
 use mathlib.Core.Path.{◌≡◌, refl, sym, ap}
 use mathlib.Core.Bool.{Bool, true, false, ◌&&◌, false≢true}
 use mathlib.Core.List.{List}
+use mathlib.Core.Logic.{◌⊎◌, inl, inr}
 use native.Mathlib.Omega.{arith}
 use lib.Dec.{leb}
 use lib.ListN.{length}
@@ -12,29 +13,30 @@ use Rattle.little_endian.proofs.Tests.{both}
 use Rattle.answer.specs.declared.Answer.{Answer}
 use Rattle.answer.specs.declared.Answer.TheVariants.{WrongShape, TooManyEvents, WrongMemoryLength}
 use Rattle.trace.specs.declared.Header.{Header}
-use Rattle.trace.specs.declared.Shape.{Shape}
-use Rattle.trace.specs.declared.Shape.TheVariants.{Formed, Refused}
+use Rattle.trace.specs.File.{Shape}
+use Rattle.std.specs.Prelude.{Ok, Err}
 use Rattle.trace.specs.File.{events_in, header_in, entry_at, is_shape, is_memory_length, first, shape_of}
 
 abbrev is_formed : Shape → Bool
-is_formed (Formed header) = true
-is_formed (Refused answer) = false
+is_formed (Ok header) = true
+is_formed (Err answer) = false
 
 -- What comes after a check is the shape only where the check passes.
-passed : (t : Bool) (answer : Answer) (later : Shape) (h : Header) → first t answer later ≡ Formed h
-    → (t ≡ true) × (later ≡ Formed h)
+passed : (t : Bool) (answer : Answer) (later : Shape) (h : Header) → first t answer later ≡ Ok h
+    → (t ≡ true) × (later ≡ Ok h)
 passed true answer later h e = (refl, e)
 passed false answer later h e = absurd (false≢true (ap is_formed e))
 
-header_of : (h g : Header) → Formed h ≡ Formed g → h ≡ g
+header_of : (h g : Header) → ◌≡◌ {A = Shape} (Ok h) (Ok g) → h ≡ g
 header_of h g e = cc
 
 module _ (limit total : ℕ) (f : List ℕ) where
-  pub not-headed : (leb 12 (length f) && leb (length f) total) ≡ false → shape_of limit f total ≡ Refused WrongShape
+  pub not-headed : (length f < 12) ⊎ ((12 ≤ length f) × (total < length f)) → shape_of limit f total ≡ Err WrongShape
   unfolding shape_of
-  not-headed h = rw h
+  not-headed (inl short) = rw (lt-leb 12 (length f) short)
+  not-headed (inr long) = rw (le-leb 12 (length f) long.0, lt-leb (length f) total long.1)
 
-  pub too_many : 12 ≤ length f → length f ≤ total → limit < events_in f → shape_of limit f total ≡ Refused TooManyEvents
+  pub too_many : 12 ≤ length f → length f ≤ total → limit < events_in f → shape_of limit f total ≡ Err TooManyEvents
   unfolding shape_of
   too_many held within many = rw (le-leb 12 (length f) held, le-leb (length f) total within, lt-leb (events_in f) limit many)
 
@@ -42,14 +44,14 @@ module _ (limit total : ℕ) (f : List ℕ) where
   pub by_tests : (h : Header) (shape memories : Bool) → 12 ≤ length f → length f ≤ total → h ≡ header_in f → h.events ≤ limit
       → shape ≡ is_shape f total
       → (is_memory_length h.global && is_memory_length h.shared) ≡ memories
-      → first shape WrongShape (first memories WrongMemoryLength (Formed h)) ≡ shape_of limit f total
+      → first shape WrongShape (first memories WrongMemoryLength (Ok h)) ≡ shape_of limit f total
   unfolding shape_of
   by_tests h shape memories held within header few s m =
       let few' : events_in f ≤ limit = rw header at few in
       rw (le-leb 12 (length f) held, le-leb (length f) total within, le-leb (events_in f) limit few', s, ← m, header)
 
   -- A file that is formed has passed every check.
-  pub formed : (h : Header) → shape_of limit f total ≡ Formed h
+  pub formed : (h : Header) → shape_of limit f total ≡ Ok h
       → (h ≡ header_in f) × (events_in f ≤ limit) × (is_shape f total ≡ true)
   unfolding shape_of
   formed h e =
@@ -65,7 +67,7 @@ unfolding is_shape
 table_held f total h = leb-true (entry_at (events_in f)) (length f) (both (leb (entry_at (events_in f)) (length f)) _ h).0
 
 -- What a caller may count on, once the file is formed.
-pub counted : (limit total : ℕ) (f : List ℕ) (h : Header) → shape_of limit f total ≡ Formed h
+pub counted : (limit total : ℕ) (f : List ℕ) (h : Header) → shape_of limit f total ≡ Ok h
     → (h.events ≡ events_in f) × (h.events ≤ limit) × (entry_at h.events ≤ length f)
 counted limit total f h e =
     let p = formed limit total f h e in

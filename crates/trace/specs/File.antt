@@ -1,12 +1,10 @@
 -- The trace file: header, table and bodies.
-use Rattle.std.specs.Prelude.{ℕ, zero, suc, ◌+◌, ◌*◌, Bool, true, ◌&&◌, cond, List, [], ◌∷◌, ◌++◌, leb, eqb, length, get_or, take, drop}
+use Rattle.std.specs.Prelude.{ℕ, zero, suc, ◌+◌, ◌*◌, Bool, true, ◌&&◌, cond, List, [], ◌∷◌, ◌++◌, leb, eqb, length, get_or, take, drop, Result, Ok, Err}
 use Rattle.little_endian.specs.Number.{is_zero, number_at}
 use Rattle.answer.specs.declared.Answer.{Answer}
 use Rattle.answer.specs.declared.Answer.TheVariants.{WrongShape, TooManyEvents, WrongMemoryLength}
-use Rattle.decoder.specs.declared.Item.{Item}
+use Rattle.decoder.specs.Item.{Item}
 use Rattle.trace.specs.declared.Header.{Header}
-use Rattle.trace.specs.declared.Shape.{Shape}
-use Rattle.trace.specs.declared.Shape.TheVariants.{Formed, Refused}
 use Rattle.decoder.specs.Kinds.{decode_of}
 
 -- Bytes 0-1: number of events n. Bytes 2-3: zero. Bytes 4-7: global length. Bytes 8-11: shared length.
@@ -59,9 +57,13 @@ is_shape f total =
 abbrev pub is_memory_length : ℕ → Bool
 is_memory_length n = leb n 65536
 
+-- The header of a file of the right shape, or its refusal.
+abbrev pub Shape : Type 0
+Shape = Result Header Answer
+
 -- A check, the answer where it fails, and the checks that follow.
 abbrev pub first : Bool → Answer → Shape → Shape
-first passed answer later = cond passed later (Refused answer)
+first passed answer later = cond passed later (Err answer)
 
 -- Under 12 bytes, or more first bytes than the file has bytes (2), then n over the limit (3), then other shape faults (2), then a
 -- memory length (4).
@@ -71,7 +73,7 @@ shape_of limit f total =
     (first (leb (events_in f) limit) TooManyEvents
     (first (is_shape f total) WrongShape
     (first (is_memory_length (header_in f).global && is_memory_length (header_in f).shared) WrongMemoryLength
-    (Formed (header_in f)))))
+    (Ok (header_in f)))))
 
 -- The items of the first i events, in event order.
 unfoldable pub first_items : (ℕ → Item) → ℕ → List Item
@@ -87,8 +89,8 @@ pub data Contents : Type 0 where
   recorded : Header → List Item → Contents
 
 abbrev pub contents_of : List ℕ → Shape → Contents
-contents_of f (Refused answer) = refused answer
-contents_of f (Formed header) = recorded header (first_items (item_in f) header.events)
+contents_of f (Err answer) = refused answer
+contents_of f (Ok header) = recorded header (first_items (item_in f) header.events)
 
 unfoldable pub file_of : ℕ → List ℕ → Contents
 file_of limit f = contents_of f (shape_of limit f (length f))

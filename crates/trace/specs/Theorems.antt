@@ -1,11 +1,10 @@
 -- What holds of trace files. Each statement is a type; proofs/Theorems.antt proves it, as `held_whole : HeldWhole`.
-use Rattle.std.specs.Prelude.{ℕ, ◌≤◌, ◌≡◌, List, [], ◌∷◌, length, take}
+use Rattle.std.specs.Prelude.{ℕ, ◌≤◌, ◌≡◌, List, [], ◌∷◌, length, take, Ok}
 use Rattle.answer.specs.Table.{event_limit}
 use Rattle.event.specs.declared.Address.TheVariants.{Shared}
 use Rattle.event.specs.declared.Cache.TheVariants.{Ca}
 use Rattle.event.specs.declared.Event.TheVariants.{Load, Copy, WaitAll}
 use Rattle.event.specs.declared.Mode.TheVariants.{Plain}
-use Rattle.decoder.specs.declared.Item.TheVariants.{Decoded}
 use Rattle.trace.specs.File.{shape_of, recorded, file_of}
 use Rattle.trace.specs.Beginning.{enough, held_of, checked_file, check_of}
 use Rattle.event.specs.Addresses.{global, shared}
@@ -34,4 +33,4 @@ unfoldable pub DocumentFile : Type 0
 DocumentFile =
     file_of event_limit document_file
     ≡ recorded (record { events = 3; global = 16; shared = 16 })
-    (Decoded (Copy (shared 0) (global 0) 4 Plain Ca) ∷ Decoded WaitAll ∷ Decoded (Load (Shared (shared 0)) 4) ∷ [])
+    (Ok (Copy (shared 0) (global 0) 4 Plain Ca) ∷ Ok WaitAll ∷ Ok (Load (Shared (shared 0)) 4) ∷ [])

@@ -4,10 +4,11 @@
 
 #![tactic(auto)]
 
+mod file;
 mod items;
 mod table;
 
-use answer::Answer;
+pub use file::{File, Items, open};
 pub use items::{ENOUGH, check, entry_of, item_at};
 pub use table::{MEMORY_LIMIT, entry_at, shape_of};
 
@@ -19,15 +20,9 @@ pub struct Header {
     pub shared: u32,
 }
 
-// An event's kind and the length of its body.
+// An event's kind, the byte as it stands in the file, and the length of its body.
 #[derive(Clone, Copy)]
 pub struct Entry {
     pub kind: u8,
     pub length: u32,
-}
-
-#[derive(Clone, Copy)]
-pub enum Shape {
-    Formed(Header),
-    Refused(Answer),
 }

@@ -1,11 +1,11 @@
 // The shape of a file: its header, its table and its length.
-ghost use Rattle.std.specs.Prelude.{◌≡◌, ◌+◌, ◌*◌, ◌≤◌, ◌<◌, length};
+ghost use Rattle.std.specs.Prelude.{◌≡◌, ◌+◌, ◌*◌, ◌≤◌, length};
 ghost use Rattle.answer.specs.Table.{event_limit};
-ghost use Rattle.trace.specs.File.{events_in, header_in, entry_at, entry_zero, entries_zero, body_lengths, is_shape, shape_of};
+ghost use Rattle.trace.specs.File.{events_in, header_in, entry_at, entries_zero, body_lengths, is_shape, shape_of};
 
-use crate::{Header, Shape};
+use crate::Header;
 use answer::{Answer, EVENT_LIMIT};
-use little_endian::{four_at, two_at};
+use little_endian::number_at;
 
 const HEADER_LENGTH: usize = 12;
 
@@ -14,32 +14,23 @@ pub(crate) const ENTRY_LENGTH: usize = 4;
 pub const MEMORY_LIMIT: u32 = 65536;
 
 // The header of a file of the shape that document 01 asks for, or its refusal. No file has more first bytes than bytes.
-pub fn shape_of(beginning: &[u8], total: usize) -> Shape
+pub fn shape_of(beginning: &[u8], total: usize) -> Result<Header, Answer>
     ensures { result ≡ shape_of event_limit beginning.now total }
 {
-    if (HEADER_LENGTH <= beginning.len()) & (beginning.len() <= total) {
-        headed(beginning, total)
-    } else {
-        Shape::Refused(Answer::WrongShape)
+    if beginning.len() < HEADER_LENGTH || total < beginning.len() {
+        return Err(Answer::WrongShape);
     }
-}
-
-// The same of a beginning that holds the header.
-fn headed(beginning: &[u8], total: usize) -> Shape
-    requires { (12 ≤ length beginning.now) × (length beginning.now ≤ total) }
-    ensures { result ≡ shape_of event_limit beginning.now total }
-{
     let header = header_in(beginning);
     if EVENT_LIMIT < header.events {
-        return Shape::Refused(Answer::TooManyEvents);
+        return Err(Answer::TooManyEvents);
     }
     if !is_shape(beginning, header.events, total) {
-        return Shape::Refused(Answer::WrongShape);
+        return Err(Answer::WrongShape);
     }
     if (header.global <= MEMORY_LIMIT) & (header.shared <= MEMORY_LIMIT) {
-        Shape::Formed(header)
+        Ok(header)
     } else {
-        Shape::Refused(Answer::WrongMemoryLength)
+        Err(Answer::WrongMemoryLength)
     }
 }
 
@@ -55,9 +46,9 @@ fn header_in(beginning: &[u8]) -> Header
     ensures { result ≡ header_in beginning.now }
 {
     Header {
-        events: two_at(beginning, 0),
-        global: four_at(beginning, 4),
-        shared: four_at(beginning, 8),
+        events: u32::from(number_at::<u16>(beginning, 0)),
+        global: number_at(beginning, 4),
+        shared: number_at(beginning, 8),
     }
 }
 
@@ -71,7 +62,7 @@ fn is_shape(beginning: &[u8], events: u32, total: usize) -> bool
         return false;
     }
     (total == bodies + body_lengths(beginning, events))
-        & (two_at(beginning, 2) == 0)
+        & (number_at::<u16>(beginning, 2) == 0)
         & entries_zero(beginning, events)
 }
 
@@ -80,13 +71,9 @@ fn body_lengths(beginning: &[u8], events: u32) -> usize
     requires { entry_at events ≤ length beginning.now }
     ensures { (result ≡ body_lengths beginning.now events) × (result ≤ 65535 * events) }
 {
-    let mut lengths: usize = 0;
-    let mut event: u32 = 0;
-    while event < events {
-        lengths += two_at(beginning, entry_at(event) + 2) as usize;
-        event += 1;
-    }
-    lengths
+    (0..events)
+        .map(|event| usize::from(number_at::<u16>(beginning, entry_at(event) + 2)))
+        .sum()
 }
 
 // Whether the zero bytes of the first `events` entries are zero.
@@ -94,19 +81,5 @@ fn entries_zero(beginning: &[u8], events: u32) -> bool
     requires { entry_at events ≤ length beginning.now }
     ensures { result ≡ entries_zero beginning.now events }
 {
-    let mut zeros = true;
-    let mut event: u32 = 0;
-    while event < events {
-        zeros = zeros & entry_zero(beginning, event);
-        event += 1;
-    }
-    zeros
-}
-
-fn entry_zero(beginning: &[u8], event: u32) -> bool
-    requires { entry_at event + 1 < length beginning.now }
-    ensures { result ≡ entry_zero beginning.now event }
-{
-    let at = entry_at(event) + 1;
-    beginning[at] == 0
+    (0..events).all(|event| beginning[entry_at(event) + 1] == 0)
 }

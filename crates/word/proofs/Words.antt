@@ -1,15 +1,18 @@
 -- Words, and the bodies of sheets that they are made of.
 -- Assumes nothing.
-use Prim.Native.Nat.{ℕ, zero, suc, ◌+◌, ◌*◌, ◌%◌, ◌^◌, ◌<◌}
+use Prim.Native.Nat.{ℕ, zero, suc, ◌+◌, ◌*◌, ◌/◌, ◌%◌, ◌^◌, ◌<◌}
 use mathlib.Core.Path.{◌≡◌, refl, ap, ap₂, ◌∙◌}
 use mathlib.Core.Bool.{Bool, true, false}
 use mathlib.Core.List.{List, [], ◌∷◌, ◌++◌}
 use native.Mathlib.Nat.{mod-lt}
+use native.Mathlib.Omega.{arith}
 use lib.Arith.{digits_lt}
 use lib.Dec.{lit<}
 use lib.Pow.{pow-add, pow_pos, shr_lt, low, high, split}
 use lib.ListN.{replicate}
 use lib.Seq.{sets}
+use Rattle.std.proofs.lemmas.Nat.{or_comm, or_shifted}
+use Rattle.std.specs.Int.{w64, rotate_left, rotate_right}
 use Rattle.little_endian.specs.Number.{Bytes, number_at, bytes_of}
 use Rattle.little_endian.proofs.Widths.{each-byte, back}
 use Rattle.answer.specs.declared.Answer.{Answer}
@@ -60,3 +63,14 @@ unfolding bytes_of
 sheet_again a =
     ap (λ (body : List ℕ). two_each (4 ∷ 8 ∷ []) ++ body)
     (back 8 (sheet_of a) 4 (each-bytes (in_order (numbers_of a))) (lit< tt))
+
+-- What turns a word is std's turning of 64 bits.
+pub turned_left : (n : ℕ) → n < 2 ^ 64 → rotate_left w64 n 16 ≡ turned 16 48 n
+turned_left n h =
+    let above : n * 2 ^ 16 % 2 ^ 64 ≡ n % 2 ^ 48 * 2 ^ 16 = omega arith in
+    rw above (or_shifted (n % 2 ^ 48) 16 (n / 2 ^ 48) (omega arith))
+
+pub turned_right : (n : ℕ) → n < 2 ^ 64 → rotate_right w64 n 16 ≡ turned 48 16 n
+turned_right n h =
+    let above : n * 2 ^ 48 % 2 ^ 64 ≡ n % 2 ^ 16 * 2 ^ 48 = omega arith in
+    rw (or_comm, above) (or_shifted (n % 2 ^ 16) 48 (n / 2 ^ 16) (omega arith))

@@ -11,5 +11,5 @@ pub loop-i-preserved : goal.loop-i-preserved
 loop-i-preserved c =
     let h = c.loop-i.invariant in
     let put = c.put-at.ensures in
-    let text = grown _ _ _ _ c.loop-i.i _ _ _ h.here h.text put.value c.end_of.ensures put.line_after in
-    record { here = text.0; text = text.1; short = omega (arith, put.upper_bound) }
+    let text = grown _ _ _ _ c.loop-i.i _ _ _ h.here h.text put.past c.end_of.ensures put.laid in
+    record { here = text.0; text = text.1; short = omega (arith, put.within) }

@@ -1,49 +1,62 @@
 -- `put` meets its contract: what is still to be put in makes of the bytes so far what is promised.
-use Prim.Native.Nat.{ℕ, suc, ◌+◌, ◌-◌, ◌/◌, ◌%◌, ◌<◌}
+use Prim.Native.Nat.{ℕ, suc, ◌+◌, ◌-◌, ◌/◌, ◌%◌, ◌≤◌, ◌<◌}
 use native.Mathlib.Numerals.{add-one}
 use native.Mathlib.Omega.{arith}
-use mathlib.Core.Path.{◌≡◌, refl, sym, ap, ◌∙◌}
-use mathlib.Core.List.{List}
-use lib.ListN.{set, length-set}
-use lib.Seq.{sets}
+use mathlib.Core.Path.{◌≡◌, sym, ap, ◌∙◌}
+use mathlib.Core.List.{List, ◌++◌, append_assoc}
+use lib.ListN.{length, take, drop, set, length-set, length-drop, drop_of_length-le}
+use lib.Seq.{sets, sets-eq}
+use borrow.Rule.Slice.PartMut.{put_mid, Post-is}
+use Rattle.std.proofs.lemmas.List.{append-nil, length-take-le}
 use Rattle.little_endian.specs.Number.{bytes_of}
+use Rattle.little_endian.proofs.Widths.{length-bytes}
 use Rattle.little_endian.proofs.put.Goals as goal
 
 -- one byte more
-next : (bytes : List ℕ) (index end rest : ℕ) → index < end
-    → sets (set bytes index (rest % 256)) (index + 1) (bytes_of (end - (index + 1)) (rest / 256))
-    ≡ sets bytes index (bytes_of (end - index) rest)
+next : (bytes : List ℕ) (index width rest : ℕ) → index < width
+    → sets (set bytes index (rest % 256)) (index + 1) (bytes_of (width - (index + 1)) (rest / 256))
+    ≡ sets bytes index (bytes_of (width - index) rest)
 unfolding bytes_of
-next bytes index end rest h =
-    let left : end - index ≡ suc (end - (index + 1)) = omega arith in
+next bytes index width rest h =
+    let left : width - index ≡ suc (width - (index + 1)) = omega arith in
     rw (left, add-one index)
 
-pub loop-index-init : goal.loop-index-init
-loop-index-init c =
-    let all : c.args.at + c.args.width - c.args.at ≡ c.args.width = omega arith in
-    (omega arith, refl, ap (λ n. sets c.args.bytes.now c.args.at (bytes_of n c.args.number)) all)
+-- all of them
+all : (xs ys : List ℕ) → length xs ≡ length ys → sets xs 0 ys ≡ ys
+all xs ys h =
+    sets-eq ys xs 0 (omega arith)
+    ∙ ap (λ (l : List ℕ). ys ++ l) (drop_of_length-le xs {i = 0 + length ys} (omega arith))
+    ∙ append-nil ys
 
-pub bounds-bytes-index : goal.bounds-bytes-index
-bounds-bytes-index c = omega arith
+-- the part put back
+back : (at width : ℕ) (bytes part ys : List ℕ) → at + width ≤ length bytes → part ≡ ys → length ys ≡ width
+    → put_mid at (at + width - at) bytes part ≡ sets bytes at ys
+back at width bytes part ys room e long =
+    ap (put_mid at (at + width - at) bytes) e
+    ∙ ap (λ (l : List ℕ). take at bytes ++ (ys ++ l)) (Post-is at (at + width) bytes (omega arith))
+    ∙ sym (append_assoc (take at bytes) ys (drop (at + width) bytes))
+    ∙ ap (λ n. take at bytes ++ ys ++ drop (at + n) bytes) (sym long)
+    ∙ sym (sets-eq ys bytes at (omega arith))
 
-pub overflow_add-index : goal.overflow_add-index
-overflow_add-index c = omega arith
+pub loop-byte-init : goal.loop-byte-init
+loop-byte-init c =
+    let a = c.args in
+    let part = take (a.at + a.width - a.at) (drop a.at a.bytes.now) in
+    let long : length part ≡ a.width = length-take-le _ (drop a.at a.bytes.now) (omega (arith, length-drop a.at a.bytes.now)) ∙ omega arith in
+    let none : a.width - 0 ≡ a.width = omega arith in
+    (long, ap (λ n. sets part 0 (bytes_of n a.number)) none ∙ all part (bytes_of a.width a.number) (long ∙ sym (length-bytes a.width a.number)))
 
-pub loop-index-smaller : goal.loop-index-smaller
-loop-index-smaller c = omega arith
-
-pub loop-index-preserved : goal.loop-index-preserved
-loop-index-preserved c =
-    let loop = c.loop-index in
-    (omega arith, length-set loop.bytes loop.index (loop.rest % 256) ∙ loop.invariant.1, next loop.bytes loop.index _ loop.rest (omega arith) ∙ loop.invariant.2)
-
-pub shape_of-bytes : goal.shape_of-bytes
-shape_of-bytes c = omega arith
+pub loop-byte-preserved : goal.loop-byte-preserved
+loop-byte-preserved c =
+    let loop = c.loop-byte in
+    (length-set loop.byte-items loop.byte-index (loop.rest % 256) ∙ loop.invariant.0, next loop.byte-items loop.byte-index _ loop.rest (omega arith) ∙ loop.invariant.1)
 
 pub returns : goal.returns
 unfolding bytes_of
 returns c =
     let a = c.args in
-    let none : a.at + a.width - c.loop-index.index ≡ 0 = omega arith in
-    ap (λ n. sets c.loop-index.bytes c.loop-index.index (bytes_of n c.loop-index.rest)) (sym none)
-    ∙ c.loop-index.invariant.2
+    let loop = c.loop-byte in
+    let none : a.width - loop.byte-index ≡ 0 = omega arith in
+    let put : loop.byte-items ≡ bytes_of a.width a.number =
+    ap (λ n. sets loop.byte-items loop.byte-index (bytes_of n loop.rest)) (sym none) ∙ loop.invariant.1 in
+    back a.at a.width a.bytes.now loop.byte-items (bytes_of a.width a.number) (omega arith) put (length-bytes a.width a.number)

@@ -1,18 +1,18 @@
--- `lorvisk_write_sheet` meets its contract: the writer's 1 says that it has written.
-use mathlib.Core.Path.{ap, ◌∙◌}
-use lib.Dec.{eqb}
+-- `lorvisk_write_sheet` meets its contract: the writer's answer says whether it has written.
+use mathlib.Core.Path.{◌≡◌, refl, ap, ◌∙◌}
+use mathlib.Core.Bool.{Bool, true, false}
 use Rattle.answer.specs.declared.Answer.{Answer}
-use Rattle.answer.specs.declared.Numbers.{Numbers}
-use Rattle.answer.specs.Numbers.{numbers_of}
 use Rattle.answer.specs.Sheet.{is_written, write_leaves}
-use Rattle.lorvisk.proofs.Written.{answered_1}
+use Rattle.answer.proofs.Writing.{written, not_written}
 use Rattle.lorvisk.proofs.lorvisk_write_sheet.Goals as goal
 
 pub returns : goal.returns
 returns c =
-    let out = c.args.out.now in
-    let answer = c.unpack.ensures in
-    let said = c.numbers.ensures ∙ ap numbers_of c.write_sheet-said.ensures.value in record {
-      value = ap (λ (numbers : Numbers). eqb numbers.code 1) said ∙ answered_1 _ out ∙ ap (λ (a : Answer). is_written a out) answer;
-      out_after = c.write_sheet-said.ensures.out_after ∙ ap (λ (a : Answer). write_leaves a out) answer;
+    record {
+      value = go (is_written c.unpack.result c.args.out.now) refl ∙ ap (λ (a : Answer). is_written a c.args.out.now) c.unpack.ensures;
+      out_after = c.write_sheet-said.ensures.out_after ∙ ap (λ (a : Answer). write_leaves a c.args.out.now) c.unpack.ensures;
     }
+  where
+    go : (t : Bool) → is_written c.unpack.result c.args.out.now ≡ t → c.eq.result ≡ is_written c.unpack.result c.args.out.now
+    go true e = rw e (rw (c.write_sheet-said.ensures.value ∙ (written c.unpack.result c.args.out.now e).0) at c.eq.ensures)
+    go false e = rw e (rw (c.write_sheet-said.ensures.value ∙ (not_written c.unpack.result c.args.out.now e).0) at c.eq.ensures)

@@ -1,7 +1,10 @@
 -- `move_bytes` meets its contract: each arm does what the definition says of its event.
 use native.Mathlib.Omega.{arith}
-use mathlib.Core.Path.{ap}
+use mathlib.Core.Path.{ap, ap₂, ◌∙◌}
 use lib.ListN.{length, length-take}
+use Rattle.effect.specs.Memory.{read, write}
+use Rattle.effect.specs.Element.{reduce}
+use Rattle.moves.proofs.Parts.{length-read}
 use Rattle.moves.proofs.Acting.{store-fits, copy-fits, bulk-copy-fits, reduction-fits}
 use Rattle.moves.proofs.move_bytes.Goals as goal
 
@@ -13,19 +16,38 @@ store-requires c =
       size_bound = fits.1;
     }
 
-pub copy-requires : goal.copy-requires
-copy-requires c =
-    let read = c.bytes_read.ensures in
-    rw read (copy-fits _ _ _ _ _ _ (rw c.in-Copy.is at c.requires))
+pub part-requires : goal.part-requires
+part-requires c = rw c.bytes_read.ensures (copy-fits _ _ _ _ _ _ (rw c.in-Copy.is at c.requires)).2
 
-pub shared_part-requires : goal.shared_part-requires
-shared_part-requires c = (bulk-copy-fits _ _ _ _ (rw c.in-BulkCopy.is at c.requires)).1
+pub write_padded-requires : goal.write_padded-requires
+write_padded-requires c =
+    let fits = copy-fits _ _ _ _ _ _ (rw c.in-Copy.is at c.requires) in
+    (fits.0, rw (c.part.ensures, length-take, c.bytes_read.ensures) (omega (arith, fits.1)))
 
-pub write_global-requires : goal.write_global-requires
-write_global-requires c =
+pub part-requires-in-BulkCopy : goal.part-requires-in-BulkCopy
+part-requires-in-BulkCopy c some = (bulk-copy-fits _ _ _ _ (rw c.in-BulkCopy.is at c.requires)).1
+
+pub write-requires : goal.write-requires
+write-requires c =
     let fits = bulk-copy-fits _ _ _ _ (rw c.in-BulkCopy.is at c.requires) in
-    let source = ap length c.shared_part.ensures in
-    rw (source, length-take) (omega (arith, fits.0))
+    rw (c.part-in-BulkCopy.ensures, length-take) (omega (arith, fits.0))
 
-pub bulk_reduction-requires : goal.bulk_reduction-requires
-bulk_reduction-requires c = reduction-fits _ _ _ _ _ _ (rw c.in-BulkReduction.is at c.requires)
+pub part-requires-in-BulkReduction : goal.part-requires-in-BulkReduction
+part-requires-in-BulkReduction c some = (reduction-fits _ _ _ _ _ _ (rw c.in-BulkReduction.is at c.requires)).1
+
+pub reduce-requires : goal.reduce-requires
+reduce-requires c =
+    let arm = c.in-BulkReduction in
+    let fits = reduction-fits _ _ _ _ _ _ (rw arm.is at c.requires) in
+    rw (c.part-in-BulkReduction.ensures, length-read c.args.shared.now.bytes.now arm.src.0 arm.size fits.1) (fits.0, fits.2)
+
+pub returns-in-BulkReduction-clause-global_after : goal.returns-in-BulkReduction-clause-global_after
+returns-in-BulkReduction-clause-global_after c =
+    let arm = c.in-BulkReduction in
+    let memory = c.args.global.now.bytes.now in
+    let fits = reduction-fits _ _ _ _ _ _ (rw arm.is at c.requires) in
+    let source = c.part-in-BulkReduction.ensures in
+    let long = ap length source ∙ length-read c.args.shared.now.bytes.now arm.src.0 arm.size fits.1 in
+    rw arm.is
+    (c.reduce.ensures.combined
+    ∙ ap₂ (λ size source. write memory arm.dst.0 (reduce arm.operation arm.element (read memory arm.dst.0 size) source)) long source)

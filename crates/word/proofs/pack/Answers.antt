@@ -4,11 +4,14 @@ use mathlib.Core.Path.{ap, ◌∙◌}
 use mathlib.Core.List.{List}
 use Rattle.little_endian.specs.Number.{number_at}
 use Rattle.word.specs.Word.{turned, packed}
-use Rattle.word.proofs.Words.{written_body}
+use Rattle.word.proofs.Words.{written_body, turned_left}
 use Rattle.word.proofs.pack.Goals as goal
 
 pub returns : goal.returns
 unfolding packed
 returns c =
-    ap (turned 16 48)
-    (c.eight_at-body.ensures ∙ ap (λ (sheet : List ℕ). number_at 8 sheet 4) c.write_sheet.ensures.out_after ∙ written_body _)
+    let body = c.number_at-body.ensures in
+    c.rotate_left.ensures
+    ∙ turned_left _ body.small
+    ∙ ap (turned 16 48)
+    (body.value ∙ ap (λ (sheet : List ℕ). number_at 8 sheet 4) c.write_sheet.ensures.out_after ∙ written_body _)

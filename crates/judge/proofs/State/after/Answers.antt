@@ -3,8 +3,23 @@ use native.Mathlib.Omega.{arith}
 use Rattle.judge.proofs.Sound.{going}
 use Rattle.judge.proofs.State.after.Goals as goal
 
+pub refused-requires : goal.refused-requires
+refused-requires c = (going _ _ _ c.requires).events_most
+
 pub passed-requires : goal.passed-requires
 passed-requires c = (going _ _ _ c.requires).events_most
+
+pub put-requires : goal.put-requires
+put-requires c = let known = going _ _ _ c.requires in omega arith
+
+pub overflow_add-self : goal.overflow_add-self
+overflow_add-self c = let known = going _ _ _ c.requires in omega arith
+
+pub passed-requires-in-Operation : goal.passed-requires-in-Operation
+passed-requires-in-Operation c = (going _ _ _ c.requires).events_most
+
+pub passed-requires-in-Commit : goal.passed-requires-in-Commit
+passed-requires-in-Commit c = (going _ _ _ c.requires).events_most
 
 pub close-unclosed-requires : goal.close-unclosed-requires
 close-unclosed-requires c = let known = going _ _ _ c.requires in omega arith

@@ -1,7 +1,6 @@
 -- `State::step_item` meets its contract.
 use native.Mathlib.Omega.{arith}
 use mathlib.Core.Path.{sym, ap, ◌∙◌}
-use Rattle.answer.specs.Codes.{is_no_verdict}
 use Rattle.decoder.proofs.Variants.{undecoded}
 use Rattle.judge.specs.Step.{refused_by, leaving, left_by}
 use Rattle.judge.proofs.Sound.{going}
@@ -25,21 +24,19 @@ returns-in_default c =
     let refusal = c.refused.ensures ∙ ap (refused_by a.self) c.refusal.ensures in
     stepped a.self a.item a.ranges.now a.marks.now _ _ _
     (ap (λ t. leaving t a.ranges.now a.marks.now) refusal
-    ∙ sym (step-undecoded _ _ _ on a.item (undecoded a.item c.in_default.not-Decoded)))
+    ∙ sym (step-undecoded _ _ _ on a.item (undecoded a.item c.in_default.not-Ok)))
 
-pub refused-requires-then-not-is_no_verdict : goal.refused-requires-then-not-is_no_verdict
-refused-requires-then-not-is_no_verdict c = (going _ _ _ (sym c.goes_on.ensures ∙ c.if-not-goes_on.false)).events_most
+pub refused-requires-in-Some : goal.refused-requires-in-Some
+refused-requires-in-Some c = (going _ _ _ (sym c.goes_on.ensures ∙ c.if-not-goes_on.false)).events_most
 
-pub returns-then-not-is_no_verdict : goal.returns-then-not-is_no_verdict
-returns-then-not-is_no_verdict c =
+pub returns-in-Some : goal.returns-in-Some
+returns-in-Some c =
     let a = c.args in
     let on = sym c.goes_on.ensures ∙ c.if-not-goes_on.false in
-    let fault = c.fault_alone-fault.ensures in
-    let refusal = c.refused-then-not-is_no_verdict.ensures ∙ ap (refused_by a.self) fault in
-    let some = sym (c.is_no_verdict.ensures ∙ ap is_no_verdict fault) ∙ c.if-not-is_no_verdict.true in
-    rw c.in-Decoded.is
+    let fault = sym c.fault_alone.ensures ∙ c.in-Some.is in
+    rw c.in-Ok.is
     (stepped a.self _ a.ranges.now a.marks.now _ _ _
-    (ap (λ t. leaving t a.ranges.now a.marks.now) refusal ∙ sym (step-fault _ _ _ on _ some)))
+    (ap (λ t. leaving t a.ranges.now a.marks.now) c.refused-in-Some.ensures ∙ sym (step-fault _ _ _ on _ _ fault)))
 
 pub part_of-part-requires : goal.part_of-part-requires
 part_of-part-requires c = let known = going _ _ _ (sym c.goes_on.ensures ∙ c.if-not-goes_on.false) in omega arith
@@ -48,8 +45,8 @@ pub returns : goal.returns
 returns c =
     let a = c.args in
     let on = sym c.goes_on.ensures ∙ c.if-not-goes_on.false in
-    let none = sym (c.is_no_verdict.ensures ∙ ap is_no_verdict c.fault_alone-fault.ensures) ∙ c.if-not-is_no_verdict.false in
-    rw c.in-Decoded.is
+    let none = sym c.fault_alone.ensures ∙ c.in_default-fault_alone.is in
+    rw c.in-Ok.is
     (stepped a.self _ a.ranges.now a.marks.now _ _ _
     (c.after.ensures ∙ ap (λ p. left_by p a.self a.ranges.now a.marks.now) c.part_of-part.ensures
     ∙ sym (step-passes _ _ _ on _ none)))

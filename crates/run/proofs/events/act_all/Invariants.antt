@@ -1,19 +1,17 @@
--- `events::act_all` meets its contract: after each turn the events so far have acted.
-use Prim.Native.Nat.{◌+◌, ◌*◌, ◌-◌, ◌≤◌}
+-- `events::act_all` meets its contract: what is left has still to act, is without fault, and its loads fit.
+use Prim.Native.Nat.{◌+◌, ◌≤◌}
 use mathlib.Core.Path.{◌≡◌}
 use lib.ListN.{length}
-use Rattle.trace.specs.File.{entry_at, body_start, first_items}
-use Rattle.trace.specs.Beginning.{held_item_in}
-use Rattle.moves.specs.Acting.{memories}
-use Rattle.run.specs.Acting.{acted_all}
+use Rattle.std.specs.List.{All}
+use Rattle.moves.specs.Acting.{memories, held, lengths, IsSameLoan}
+use Rattle.run.specs.Running.{load_bytes}
+use Rattle.run.specs.Acting.{FaultlessItem, acted_all}
 use Rattle.run.proofs.events.act_all.Given as goal
 
-abbrev pub invariant-loop-event : goal.invariant-loop-event
-invariant-loop-event l =
-    (l.event ≤ l.events) × (l.start ≡ body_start l.beginning l.event) × (l.start ≤ entry_at l.events + 4294967296 * l.event)
-    × (memories l.global l.shared l.loads l.filled
-    ≡ acted_all (first_items (held_item_in l.beginning) l.event) (memories l.initial.global l.initial.shared l.initial.loads 0))
-    × (length l.global ≡ length l.initial.global) × (length l.shared ≡ length l.initial.shared) × (length l.loads ≡ length l.initial.loads)
-
-abbrev pub decreases-loop-event : goal.decreases-loop-event
-decreases-loop-event l = l.events - l.event
+abbrev pub invariant-loop-item : goal.invariant-loop-item
+invariant-loop-item l =
+    (goal.iterator-loop-item).can_next l.item-iterator × (goal.iterator-loop-item).is_finite l.item-iterator
+    × (acted_all l.item-iterator (held l.lent) ≡ acted_all l.file.items (memories l.fn.global l.fn.shared l.fn.loads 0))
+    × All (FaultlessItem (lengths l.initial.lent)) l.item-iterator
+    × (l.lent.filled + load_bytes l.item-iterator ≤ length l.lent.loads.now)
+    × IsSameLoan l.initial.lent l.lent

@@ -1,23 +1,24 @@
--- `events::load_bytes` meets its contract.
+-- `events::load_bytes` meets its contract: no more items come than the limit, and the sum of their loads fits.
 use native.Mathlib.Omega.{arith}
-use mathlib.Core.Path.{refl, ap, ◌∙◌}
-use Rattle.trace.specs.File.{body_lengths, first_items}
-use Rattle.trace.specs.Beginning.{held_item_in}
-use Rattle.trace.proofs.Entries.{walked}
+use mathlib.Core.Path.{refl, ◌∙◌}
+use borrow.Author.Tests.{tests}
+use Rattle.std.proofs.Common.{rules}
+use Rattle.std.proofs.lemmas.Iterator.{YieldsList-from_map}
+use Rattle.std.proofs.lemmas.Iterator.Adapters.{fits_from_length, at_most_from_yields_List}
+use Rattle.std.proofs.lemmas.Iterator.Consumers.{YieldsList-at, YieldsList-from_first, sum_by_from_yields_List}
 use Rattle.run.specs.Running.{load_size_of}
-use Rattle.run.proofs.Items.{next-load-bytes}
+use Rattle.run.proofs.Items.{loads_added}
 use Rattle.run.proofs.events.load_bytes.Goals as goal
 
-pub loop-event-init : goal.loop-event-init
-unfolding body_lengths first_items
-loop-event-init c = (omega arith, omega arith, omega arith, refl, omega arith)
+pub sum-requires-clause-fits : goal.sum-requires-clause-fits
+sum-requires-clause-fits c =
+    fits_from_length _ _ 1024 _
+    (at_most_from_yields_List (YieldsList-at c.map.ensures.source (YieldsList-from_first (λ x. x) (λ left. left) c.items.result refl)) (omega (arith, c.items.ensures.few)))
+    c.map.ensures.closure (omega arith) (λ x r q k. search (rules, tests))
 
-pub loop-event-preserved : goal.loop-event-preserved
-loop-event-preserved c =
-    let f = c.args.beginning.now in
-    let loop = c.loop-event in
-    let entry = c.entry_of-entry in
-    let item = c.item_at-item in
-    let (here, on) = walked f loop.event loop.start entry.result loop.invariant.1 entry.ensures (omega (arith, c.requires.2)) in
-    let size = c.load_size_of.ensures ∙ ap load_size_of (item.ensures ∙ here) in
-    (omega arith, on, omega arith, omega (arith, loop.invariant.3, size, next-load-bytes (held_item_in f) loop.event), omega arith)
+pub returns : goal.returns
+returns c =
+    let items = c.args.file.now.items in
+    sum_by_from_yields_List load_size_of items c.map.result c.sum.result c.sum.ensures.ran
+    (YieldsList-from_map _ load_size_of (YieldsList-at c.map.ensures.source (YieldsList-from_first (λ x. x) (λ left. left) items c.items.ensures.all)) c.map.ensures.closure (λ x r q k. search rules))
+    ∙ loads_added items

@@ -1,24 +1,13 @@
--- `trace::items::check` meets its contract: a file that is formed is looked at event by event.
-use mathlib.Core.Path.{sym, ◌∙◌}
-use Rattle.answer.specs.Table.{event_limit}
-use Rattle.trace.specs.Beginning.{held_of, check_of}
-use Rattle.trace.proofs.Shapes.{counted}
+-- `trace::items::check` meets its contract: what the file's beginning says is told by `open`.
+use Rattle.std.proofs.Common.{rules}
+use mathlib.Core.Path.{sym, ap, ◌∙◌}
+use Rattle.trace.specs.Beginning.{checked_file, check_of}
 use Rattle.trace.proofs.items.check.Goals as goal
 
-pub check_items-requires : goal.check_items-requires
-check_items-requires c =
-    let known = counted event_limit _ _ c.in-Formed.header (sym c.shape_of-shape.ensures ∙ c.in-Formed.is) in
-    record {
-      events_value = known.0;
-      events_le_event_limit = known.1;
-      events_in_bounds = known.2;
-    }
+pub returns-in_err-file : goal.returns-in_err-file
+unfolding check_of
+returns-in_err-file c = rw c.in_err-file.ensures (search rules)
 
-pub returns-in-Refused : goal.returns-in-Refused
-unfolding check_of held_of
-returns-in-Refused c = rw (← c.shape_of-shape.ensures, c.in-Refused.is)
-
-pub returns-in-Formed : goal.returns-in-Formed
-unfolding check_of held_of
-returns-in-Formed c =
-    rw (c.check_items.ensures, ← c.shape_of-shape.ensures, c.in-Formed.is)
+pub returns : goal.returns
+unfolding check_of
+returns c = c.check_items.ensures ∙ sym (ap checked_file c.in_ok-file.ensures)

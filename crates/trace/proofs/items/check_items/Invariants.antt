@@ -1,17 +1,16 @@
--- `trace::items::check_items` meets its contract: the items passed all decode, and the next body starts where they end.
--- The measure is the number of events left.
-use Prim.Native.Nat.{◌+◌, ◌*◌, ◌-◌, ◌≤◌}
+-- `trace::items::check_items` meets its contract: the first fault of what is left is the first of all.
 use mathlib.Core.Path.{◌≡◌}
-use mathlib.Core.Bool.{true}
-use Rattle.trace.specs.File.{entry_at, body_start, first_items}
-use Rattle.trace.specs.Beginning.{held_item_in}
-use Rattle.trace.proofs.Faults.{all_decoded}
+use Prim.Native.Nat.{◌+◌, ◌≤◌}
+use lib.ListN.{length}
+use Rattle.answer.specs.Table.{event_limit}
+use Rattle.std.specs.Iterator.Adapters.{enumerate_source, enumerate_count}
+use Rattle.std.specs.Prelude.{Ok}
+use Rattle.trace.specs.Beginning.{or_fault}
 use Rattle.trace.proofs.items.check_items.Given as goal
 
 abbrev pub invariant-loop-event : goal.invariant-loop-event
 invariant-loop-event l =
-    (l.event ≤ l.events) × (l.start ≡ body_start l.beginning l.event) × (all_decoded (first_items (held_item_in l.beginning) l.event) ≡ true)
-    × (l.start ≤ entry_at l.events + 4294967296 * l.event)
-
-abbrev pub decreases-loop-event : goal.decreases-loop-event
-decreases-loop-event l = l.events - l.event
+    (goal.iterator-loop-event).can_next l.event-iterator × (goal.iterator-loop-event).is_finite l.event-iterator
+    × (enumerate_count l.event-iterator + length (enumerate_source l.event-iterator) ≤ event_limit)
+    × (or_fault (enumerate_count l.event-iterator) (enumerate_source l.event-iterator) (Ok l.file.header)
+    ≡ or_fault 0 l.file.items (Ok l.file.header))

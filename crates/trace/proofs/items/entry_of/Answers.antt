@@ -11,7 +11,8 @@ pub returns-then-at-beginning : goal.returns-then-at-beginning
 unfolding entry_in
 returns-then-at-beginning c =
     rw (
-      c.two_at.ensures.0,
+      c.from.ensures,
+      c.number_at.ensures.value,
       c.entry_at-at.ensures,
       le-leb (entry_at c.args.event + 4) (length c.args.beginning.now) (omega arith),
     )

@@ -17,7 +17,7 @@ unfolding is_shape
 returns c =
     let f = c.args.beginning.now in
     rw (
-      c.two_at.ensures.0,
+      c.number_at.ensures.value,
       c.entries_zero.ensures,
       c.body_lengths.ensures.0,
       c.entry_at-bodies.ensures,

@@ -1,0 +1,2 @@
+-- What the proof of `read_sheet` cites.
+pub mod Beginning
