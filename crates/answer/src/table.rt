@@ -7,7 +7,7 @@ use crate::{EVENT_LIMIT, Numbers};
 // The numbers that a code names besides itself.
 #[derive(Clone, Copy)]
 pub(crate) enum Named {
-    // No sheet has the code.
+    // No sheet has the code. A case and no Option: the definition `rows` has it for code 0.
     Unread,
     Nothing,
     // Count is the number of the list's events, an event one of them.

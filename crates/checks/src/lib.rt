@@ -90,6 +90,7 @@ fn inside(start: u32, size: u32, length: u32) -> bool
     size == 0 || (size <= length && start <= length - size)
 }
 
+// The number of an address of either memory. Crate moves takes a number out of the one kind or the other, to index with it.
 fn offset_of(address: Address) -> u32
     ensures { result ≡ offset_of address }
 {

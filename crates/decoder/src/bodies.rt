@@ -14,8 +14,8 @@ pub(crate) fn load(body: &[u8]) -> Item
     ensures { result ≡ of_length 8 load_in body.now }
 {
     has_length(body, 8)?;
-    let (address, size) = place_in(body)?;
-    checked(Event::Load { address, size })
+    let (address, size) = address_and_size_in(body)?;
+    allowed_event(Event::Load { address, size })
 }
 
 #[tactic(auto, unfolding(crate::specs::Kinds::of_length, crate::specs::Bodies::checked))]
@@ -23,8 +23,8 @@ pub(crate) fn store(body: &[u8]) -> Item
     ensures { result ≡ of_length 24 store_in body.now }
 {
     has_length(body, 24)?;
-    let (address, size) = place_in(body)?;
-    checked(Event::Store {
+    let (address, size) = address_and_size_in(body)?;
+    allowed_event(Event::Store {
         address,
         size,
         low: number_at(body, 8),
@@ -37,8 +37,8 @@ pub(crate) fn copy(body: &[u8]) -> Item
     ensures { result ≡ of_length 16 copy_in body.now }
 {
     has_length(body, 16)?;
-    check(body[15] == 0)?;
-    checked(Event::Copy {
+    allow(body[15] == 0)?;
+    allowed_event(Event::Copy {
         dst: SharedAddress(number_at(body, 0)),
         src: GlobalAddress(number_at(body, 4)),
         cp_size: u32::from(body[12]),
@@ -52,7 +52,7 @@ pub(crate) fn bulk_copy(body: &[u8]) -> Item
     ensures { result ≡ of_length 12 bulk_copy_in body.now }
 {
     has_length(body, 12)?;
-    checked(Event::BulkCopy {
+    allowed_event(Event::BulkCopy {
         dst: GlobalAddress(number_at(body, 0)),
         src: SharedAddress(number_at(body, 4)),
         size: number_at(body, 8),
@@ -64,8 +64,8 @@ pub(crate) fn bulk_reduction(body: &[u8]) -> Item
     ensures { result ≡ of_length 16 bulk_reduction_in body.now }
 {
     has_length(body, 16)?;
-    check((body[14] == 0) & (body[15] == 0))?;
-    checked(Event::BulkReduction {
+    allow((body[14] == 0) & (body[15] == 0))?;
+    allowed_event(Event::BulkReduction {
         dst: GlobalAddress(number_at(body, 0)),
         src: SharedAddress(number_at(body, 4)),
         size: number_at(body, 8),
@@ -93,28 +93,32 @@ pub(crate) fn has_length(body: &[u8], body_length: usize) -> Result<(), Undecode
     }
 }
 
-// What becomes of a field that passes its check, or does not.
-fn check(passes: bool) -> Result<(), Undecoded>
-    ensures { result ≡ cond passes (Ok tt) (Err FieldNotAllowed) }
+// The refusal of a body, unless its field is one that document 01 allows.
+fn allow(field_allowed: bool) -> Result<(), Undecoded>
+    ensures { result ≡ cond field_allowed (Ok tt) (Err FieldNotAllowed) }
 {
-    passes.then_some(()).ok_or(Undecoded::FieldNotAllowed)
+    if field_allowed {
+        Ok(())
+    } else {
+        Err(Undecoded::FieldNotAllowed)
+    }
 }
 
-// The event, where its fields are allowed.
+// The event that a body says, or its refusal where document 01 does not allow the event's fields together.
 #[tactic(auto, unfolding(crate::specs::Bodies::checked))]
-fn checked(event: Event) -> Item
+fn allowed_event(event: Event) -> Item
     ensures { result ≡ checked true event }
 {
-    check(event.allowed())?;
+    allow(event.allowed())?;
     Ok(event)
 }
 
-// Load and store begin alike: a space, a size, two zeros, an address.
-fn place_in(body: &[u8]) -> Result<(Address, u32), Undecoded>
+// The address and the size of a load or a store. Both begin alike: a space, a size, two zeros, an address.
+fn address_and_size_in(body: &[u8]) -> Result<(Address, u32), Undecoded>
     requires { 8 ≤ length body.now }
     ensures { result ≡ cond (thread_meant body.now) (Ok (address_in body.now, byte_at body.now 1)) (Err FieldNotAllowed) }
 {
-    check((body[2] == 0) & (body[3] == 0))?;
+    allow((body[2] == 0) & (body[3] == 0))?;
     Ok((address_in(body)?, u32::from(body[1])))
 }
 

@@ -100,12 +100,12 @@ fn without_body(event: Event, body: &[u8]) -> Item
     Ok(event)
 }
 
-// No kind has a body of so many bytes.
-const TOO_LONG: usize = 25;
+// The most bytes that the body of a kind has: those of a store.
+pub const LONGEST_BODY: usize = 24;
 
 // What a body that is longer than any kind's decodes as. Its bytes do not matter, so no caller need hold them.
 pub fn overlong(kind: u8) -> Item
     ensures { result ≡ overlong kind }
 {
-    decode(kind, &[0u8; TOO_LONG])
+    decode(kind, &[0u8; LONGEST_BODY + 1])
 }

@@ -63,31 +63,22 @@ fn is_bulk_size(size: u32) -> bool
 fn is_value(size: u32, low: u64, high: u64) -> bool
     ensures { result ≡ is_value size low high }
 {
-    if size < 8 {
-        zero_past(low, size) & zero_past(high, 0)
-    } else {
-        zero_past(high, size - 8)
-    }
+    zero_past(low, size) & zero_past(high, size.saturating_sub(8))
 }
 
 // Whether of a number's eight bytes those past the first `size` are zero.
 fn zero_past(number: u64, size: u32) -> bool
     ensures { result ≡ all_zero (drop size (bytes_of 8 number)) }
 {
-    if size < 8 {
-        number >> (8 * size) == 0
-    } else {
-        true
-    }
+    8 <= size || number >> (8 * size) == 0
 }
 
 fn is_mode(mode: Mode, size: u32) -> bool
     ensures { result ≡ is_mode mode size }
 {
     match mode {
-        Mode::Plain => true,
+        Mode::Plain | Mode::SourceIgnored => true,
         Mode::SourceSize(src_size) => src_size <= size,
-        Mode::SourceIgnored => true,
     }
 }
 

@@ -57,7 +57,7 @@ pub enum ElementType {
     S32,
 }
 
-// One recorded event, with all that its body says. Its fields stand as they are: the theorems on bodies (`DecodesItsBody`,
+// One recorded event, with all that its body says. Its cases and fields stand as they are: the theorems on bodies (`DecodesItsBody`,
 // `OneBody`) speak of them, and document 01 names two enums for a reduction's operation and type.
 #[derive(Clone, Copy)]
 pub enum Event {

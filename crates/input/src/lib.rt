@@ -15,7 +15,11 @@ use std::{io, str};
 // No path is longer, the zero behind it counted.
 pub const PATH_MAX: usize = 4096;
 
-// The system's number of the error that a name is longer than any path.
+// So many bytes are asked for at once.
+const PIECE_LENGTH: usize = 65536;
+
+// The system's number of the error that a name is longer than any path. A number and no `ErrorKind`: the programs print the
+// system's own words for it.
 const NAME_TOO_LONG: i32 = 36;
 
 // An input that was read to its end: the first `held` of what was lent are its first bytes; `total` is its length. A length and
@@ -44,7 +48,7 @@ pub fn read<R: Read>(reader: &mut R, beginning: &mut [u8]) -> io::Result<Whole>
 {
     let mut total: usize = 0;
     for _ in 0..u32::MAX {
-        let mut piece = [0u8; 65536];
+        let mut piece = [0u8; PIECE_LENGTH];
         let count = reader.read(&mut piece)?;
         if count == 0 {
             let held = total.min(beginning.len());
@@ -73,8 +77,8 @@ pub fn name_too_long() -> io::Error
     io::Error::from_raw_os_error(NAME_TOO_LONG)
 }
 
-// What came of the file of this name; where that is an error, a line on standard error says which. Of a write that fails there
-// nobody is left to tell.
+// What came of the file of this name; where that is an error, a line on standard error says which: it needs both the handle and
+// the name. Of a write that fails there nobody is left to tell.
 pub fn ok_or_report<T: Drop>(rt: &HostRuntime, name: &[u8], outcome: io::Result<T>) -> Option<T>
     ensures { result ≡ result_ok outcome }
 {

@@ -68,6 +68,7 @@ impl State {
     }
 }
 
+// A state may be put together by a host, so this is asked here too, and not of a header alone.
 fn are_memory_lengths(lengths: Lengths) -> bool
     ensures { result ≡ are_memory_lengths lengths }
 {
@@ -78,8 +79,9 @@ fn are_memory_lengths(lengths: Lengths) -> bool
 fn is_refusal(answer: Answer) -> bool
     ensures { result ≡ is_refusal answer }
 {
+    let fits = answer.numbers().fit();
     match answer {
         Answer::Accepted { .. } => false,
-        _ => answer.numbers().fit(),
+        _ => fits,
     }
 }

@@ -31,6 +31,7 @@ pub fn judge_beginning(beginning: &[u8], total: usize) -> Answer
 pub fn judge_file(file: &File<'_>) -> Answer
     ensures { result ≡ answer_of (lengths_in file.now.header) file.now.items }
 {
+    // Two arrays of the stated length: there is no heap.
     let mut ranges = [0u32; PLACE_LENGTH];
     let mut marks = [0u32; PLACE_LENGTH];
     let header = file.header();

@@ -24,5 +24,6 @@ pub struct State {
     pub unclosed: u32,
     pub made: GroupsMade,
     pub lengths: Lengths,
+    // Any answer, and no narrower type: a host may put a state together, and `AnyStateAnswers` and `FaultsShow` speak of it.
     pub refusal: Option<Answer>,
 }

@@ -72,7 +72,7 @@ impl State {
     }
 
     // The state after a refusal: nothing is kept of the events but their number. More is open than peak, so that a state
-    // whose refusal got lost shows.
+    // whose refusal got lost shows (`LostRefusalsShow`).
     pub(crate) fn ended(self, events: u32, refusal: Answer) -> State
         ensures { result ≡ ended self.lengths events refusal }
     {

@@ -18,7 +18,7 @@ pub const NUMBER_LENGTH: usize = 11;
 // The longest line of an answer, which has four numbers.
 pub const LINE_LENGTH: usize = 4 * NUMBER_LENGTH;
 
-// Code, event, partner and peak.
+// Code, event, partner and peak. No `From`: neither type is of this crate.
 pub fn answer_numbers(answer: Answer) -> [u32; 4]
     ensures { result ≡ in_line (numbers_of answer) }
 {
@@ -37,7 +37,8 @@ pub fn write_line<W: Write>(writer: &mut W, numbers: &[u32]) -> io::Result<()>
 }
 
 // Puts the line at the start of what is lent and returns its length. With less lent than each number may need, nothing is
-// written and the length is 0 (clause `value`: what cannot fail has no `Option`).
+// written and the length is 0 (clause `value`: what cannot fail has no `Option`). Two parameters: every byte of `out` is promised
+// for these numbers.
 pub fn lay_out(numbers: &[u32], out: &mut [u8]) -> usize
     ensures value { result ≡ count_of numbers.now out.old }
     ensures out_after { out.new ≡ leaves_of numbers.now out.old }
@@ -50,7 +51,7 @@ pub fn lay_out(numbers: &[u32], out: &mut [u8]) -> usize
     }
 }
 
-// The same with a name and a space before the numbers, and as little said where nothing is written.
+// The same with a name and a space before the numbers, and the same length 0 where nothing is written (clause `value`).
 pub fn lay_out_named(name: &[u8], numbers: &[u32], out: &mut [u8]) -> usize
     ensures value { result ≡ named_count name.now numbers.now out.old }
     ensures out_after { out.new ≡ named_leaves name.now numbers.now out.old }
@@ -68,12 +69,14 @@ pub fn lay_out_named(name: &[u8], numbers: &[u32], out: &mut [u8]) -> usize
     start + lay_out(numbers, &mut out[start..])
 }
 
+// The line is laid out in what is lent and by no `Display`: no write can fail here, and a name need not be text.
 fn put_all(numbers: &[u32], out: &mut [u8]) -> usize
     requires { 11 * length numbers.now ≤ length out.old }
     ensures value { result ≡ length (line_of numbers.now) }
     ensures out_after { out.new ≡ line_of numbers.now ++ drop result out.old }
     ensures upper_bound { result ≤ length out.new }
 {
+    // An index that goes from turn to turn, and no rest of the slice: see `put`.
     let mut at: usize = 0;
     for (i, number) in numbers.iter().enumerate() {
         at = put(out, at, *number, end_of(i, numbers.len()));
@@ -89,7 +92,8 @@ fn end_of(i: usize, count: usize) -> u8
     if i + 1 == count { b'\n' } else { b' ' }
 }
 
-// Puts a number's digits and what ends it into the line from index `at` on, and returns the index past them.
+// Puts a number's digits and what ends it into the line from index `at` on, and returns the index past them: an index and no
+// rest of the slice, since the promise is of the whole line.
 fn put(line: &mut [u8], at: usize, number: u32, end: u8) -> usize
     requires { at + 11 ≤ length line.old }
     ensures past { result ≡ at + length (decimal_of number) + 1 }

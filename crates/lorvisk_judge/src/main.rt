@@ -2,7 +2,7 @@
 // With arguments: each is a file's name, and for each one line, `NAME code event partner peak`. What cannot be read to its
 // end has no verdict: twelve zero bytes, or `NAME 0 0 0 0`, and a line on standard error. Nor has a name that goes on after a
 // newline, where it could write another file's line: its own has what stands before that. The library opens no file whose name
-// is not UTF-8, so that such a file is judged on standard input alone.
+// is not UTF-8, so that such a file is judged on standard input alone. Memory is fixed: arrays of the longest length that matters.
 
 #![tactic(auto)]
 

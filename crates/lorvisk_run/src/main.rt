@@ -2,7 +2,7 @@
 // record, whose length is its room. For each four, on standard output: the verdict sheet and, only where the file is
 // accepted, the load record, the global and the shared memory as the run leaves them. No file is changed. Where one cannot
 // be read to its end there is no verdict: twelve zero bytes, and a line on standard error. The library opens no file whose name
-// is not UTF-8.
+// is not UTF-8. Memory is fixed: arrays of the longest length that matters.
 
 #![tactic(auto)]
 
@@ -31,8 +31,8 @@ fn main(rt: HostRuntime) {
         no_verdict(&rt);
         return;
     }
-    for four in 0..count / 4 {
-        run_four(&rt, 4 * four + 1);
+    for first in (1..count).step_by(4) {
+        run_four(&rt, first);
     }
 }
 
@@ -53,10 +53,10 @@ fn run_four(rt: &HostRuntime, argument: usize)
     let mut loads = [0u8; RECORD_ROOM];
     // All four are read first: each that cannot be has its line.
     let (Some(file_read), Some(global_read), Some(shared_read), Some(loads_read)) = (
-        read(rt, argument, usize::MAX, &mut file),
-        read(rt, argument + 1, usize::MAX, &mut global),
-        read(rt, argument + 2, usize::MAX, &mut shared),
-        read(rt, argument + 3, RECORD_ROOM, &mut loads),
+        read(rt, argument, None, &mut file),
+        read(rt, argument + 1, None, &mut global),
+        read(rt, argument + 2, None, &mut shared),
+        read(rt, argument + 3, Some(RECORD_ROOM), &mut loads),
     ) else {
         return no_verdict(rt);
     };
@@ -95,9 +95,10 @@ fn no_verdict(rt: &impl Print) {
     let _ = rt.write_all(&sheet);
 }
 
-// Reads the file that an argument names. One that is not read has its line on standard error. No path is longer than the
+// Reads the file that an argument names; that there is one was seen before, so no end of them is told from an error, as the judge
+// does. One that is not read has its line on standard error. No path is longer than the
 // buffer, so of a longer name the line has the first bytes.
-fn read(rt: &HostRuntime, argument: usize, most: usize, bytes: &mut [u8]) -> Option<Whole>
+fn read(rt: &HostRuntime, argument: usize, most: Option<usize>, bytes: &mut [u8]) -> Option<Whole>
     ensures { IfSome result (λ whole. Held whole bytes.old bytes.new) }
 {
     let mut name = [0u8; PATH_MAX];
@@ -110,13 +111,18 @@ fn read(rt: &HostRuntime, argument: usize, most: usize, bytes: &mut [u8]) -> Opt
     }
 }
 
-// The file of this name has at most `most` bytes.
-fn read_named(rt: &HostRuntime, name: &[u8], most: usize, bytes: &mut [u8]) -> io::Result<Whole>
+// Reads the file of this name, which has at most so many bytes, or any number.
+fn read_named(
+    rt: &HostRuntime,
+    name: &[u8],
+    most: Option<usize>,
+    bytes: &mut [u8],
+) -> io::Result<Whole>
     ensures { IfOk result (λ whole. Held whole bytes.old bytes.new) }
 {
     let whole = input::read(&mut input::open(rt, name)?, bytes)?;
-    if most < whole.total {
-        return Err(io::Error::other("more than 65536 bytes"));
+    match most {
+        Some(most) if most < whole.total => Err(io::Error::other("more than 65536 bytes")),
+        _ => Ok(whole),
     }
-    Ok(whole)
 }

@@ -1,6 +1,7 @@
 // Reads a trace file from standard input and writes one line to standard output: the header (events, global length, shared
 // length) where every event decodes, else the code, event, partner and peak of the first of 2 to 7 that the file gets. An
-// input that cannot be read to its end gets the four numbers of no verdict.
+// input that cannot be read to its end gets the four numbers of no verdict. Memory is fixed: an array of the longest length that
+// matters.
 
 #![tactic(auto)]
 

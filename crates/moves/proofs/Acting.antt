@@ -1,9 +1,8 @@
 -- What each event does, kind by kind, and what it asks of the memories.
 -- Assumes nothing.
 use Prim.Native.Nat.{ℕ, ◌+◌, ◌-◌, ◌%◌, ◌≤◌, ◌<◌}
-use native.Mathlib.Nat.{add-zero}
 use native.Mathlib.Omega.{arith}
-use mathlib.Core.Path.{◌≡◌, refl, sym, ap, ap₂, ◌∙◌}
+use mathlib.Core.Path.{◌≡◌, sym, ap₂}
 use mathlib.Core.Bool.{true}
 use mathlib.Core.Logic.{⊎_elim}
 use mathlib.Core.List.{List, [], ◌∷◌}
@@ -14,11 +13,10 @@ use borrow.Author.Tests.{eqb-true, leb-true}
 use Rattle.little_endian.specs.Number.{is_zero}
 use Rattle.little_endian.proofs.Tests.{both, all_three, or_cases}
 use Rattle.event.specs.declared.Address.{Address}
-use Rattle.event.specs.declared.Address.TheVariants as address
 use Rattle.event.specs.declared.Cache.{Cache}
 use Rattle.event.specs.declared.ElementType.{ElementType}
 use Rattle.event.specs.declared.Event.{Event}
-use Rattle.event.specs.declared.Event.TheVariants.{Load, Store, Copy, Commit, Wait, WaitAll, BulkCopy, BulkReduction, BulkCommit, BulkWait}
+use Rattle.event.specs.declared.Event.TheVariants.{Load, Store, Copy, BulkCopy, BulkReduction}
 use Rattle.event.specs.declared.GlobalAddress.{GlobalAddress}
 use Rattle.event.specs.declared.Mode.{Mode}
 use Rattle.event.specs.declared.Operation.{Operation}
@@ -27,14 +25,13 @@ use Rattle.event.specs.Fields.{is_thread_size, is_copy_size, is_bulk_size, is_va
 use Rattle.event.specs.Copies.{bytes_read}
 use Rattle.event.specs.Addresses.{offset_of}
 use Rattle.event.proofs.Sizes.{copy-size, thread-size, bulk-size, reads_less}
-use Rattle.effect.specs.Memory.{Global, Shared, initial, read, write, get}
+use Rattle.effect.specs.Memory.{Global, Shared, read}
 use Rattle.effect.specs.Access.{Access, reading, writing}
 use Rattle.rules.specs.Events.{memory_of, accesses}
 use Rattle.rules.specs.declared.Lengths.{Lengths}
 use Rattle.rules.specs.Faults.{length_of, aligned, inside, all_inside, in_range, faultless}
-use Rattle.rules.specs.Outcomes.{load_size}
-use Rattle.moves.specs.Acting.{Memories, moved, memories, alone, acted}
-use Rattle.moves.proofs.Parts.{length-read, part-back}
+use Rattle.moves.specs.Acting.{Memories, memories, alone, acted}
+use Rattle.moves.proofs.Parts.{part-back}
 
 -- ---- an event without fault keeps to the memories
 module _ (lengths : Lengths) where
@@ -112,48 +109,12 @@ module _ (lengths : Lengths) where
       (e.0, e.1, sized.1)
 
 -- ---- what it leaves
--- an event that loads nothing leaves the record
-pub silent : (e : Event) (m : Memories) → (alone e m).loaded ≡ [] ∷ []
-    → memories (alone e m).global (alone e m).shared m.loads m.filled ≡ acted e m
-unfolding acted
-silent e m none = rw (none, add-zero)
-
--- a load leaves the memories, and appends to the record what it reads
-pub loaded : (at : Address) (size : ℕ) (m : Memories) (new : List ℕ)
-    → offset_of at + size ≤ length_of (record { global = length m.global; shared = length m.shared }) (memory_of at)
+-- what it reads is appended to the record
+pub appends : (e : Event) (m : Memories) (global shared read : List ℕ) (size : ℕ) → length read ≡ size
     → m.filled + size ≤ length m.loads
-    → new ≡ get (memory_of at) (offset_of at) size (initial m.global m.shared 1)
-    → memories m.global m.shared (put_mid m.filled (m.filled + size - m.filled) m.loads new) (m.filled + size)
-    ≡ acted (Load at size) m
+    → global ≡ (alone e m).global → shared ≡ (alone e m).shared → read ∷ [] ≡ (alone e m).loaded
+    → memories global shared (put_mid m.filled (m.filled + size - m.filled) m.loads read) (m.filled + size) ≡ acted e m
 unfolding acted
-loaded at size m new fits room e = by_address at fits e
-  where
-    appended : (read : List ℕ) → length read ≡ size → new ≡ read
-        → memories m.global m.shared (put_mid m.filled (m.filled + size - m.filled) m.loads new) (m.filled + size)
-        ≡ memories m.global m.shared (write m.loads m.filled read) (m.filled + length read)
-    appended read long is =
-        ap₂ (λ l n. memories m.global m.shared l (m.filled + n))
-        (part-back m.loads new m.filled size room (ap length is ∙ long) ∙ ap (write m.loads m.filled) is) (sym long)
-
-    by_address : (at : Address)
-        → offset_of at + size ≤ length_of (record { global = length m.global; shared = length m.shared }) (memory_of at)
-        → new ≡ get (memory_of at) (offset_of at) size (initial m.global m.shared 1)
-        → memories m.global m.shared (put_mid m.filled (m.filled + size - m.filled) m.loads new) (m.filled + size)
-        ≡ acted (Load at size) m
-    by_address (address.Global a) fits e = appended (read m.global a.0 size) (length-read m.global a.0 size fits) e
-    by_address (address.Shared a) fits e = appended (read m.shared a.0 size) (length-read m.shared a.0 size fits) e
-
--- an event of another variant than the first is no load
-pub no_load : (e : Event) → ((at : Address) (size : ℕ) → e ≡ Load at size → ⊥)
-    → (0 ≡ load_size e) × ((global shared : List ℕ) → (moved e global shared).loaded ≡ [] ∷ [])
-no_load (Load at size) other = absurd (other at size refl)
-no_load (Store (address.Global at) size low high) other = (refl, λ global shared. refl)
-no_load (Store (address.Shared at) size low high) other = (refl, λ global shared. refl)
-no_load (Copy dst src cp_size mode cache) other = (refl, λ global shared. refl)
-no_load Commit other = (refl, λ global shared. refl)
-no_load (Wait n) other = (refl, λ global shared. refl)
-no_load WaitAll other = (refl, λ global shared. refl)
-no_load (BulkCopy dst src size) other = (refl, λ global shared. refl)
-no_load (BulkReduction dst src size operation element) other = (refl, λ global shared. refl)
-no_load BulkCommit other = (refl, λ global shared. refl)
-no_load (BulkWait n) other = (refl, λ global shared. refl)
+appends e m global shared read size long room g s l =
+    rw (← g, ← s, ← l)
+    (ap₂ (λ loads n. memories global shared loads (m.filled + n)) (part-back m.loads read m.filled size room long) (sym long))

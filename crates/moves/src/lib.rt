@@ -6,17 +6,17 @@
 mod memory;
 mod thread;
 
-ghost use Rattle.std.specs.Prelude.{◌≡◌, true, ◌+◌, ◌≤◌, length};
+ghost use Rattle.std.specs.Prelude.{◌≡◌, true, ◌+◌, ◌≤◌, [], ◌∷◌, length};
 ghost use Rattle.rules.specs.Faults.{faultless};
 ghost use Rattle.rules.specs.Outcomes.{load_size};
 ghost use Rattle.moves.specs.Acting.{moved, memories, acted, held, lengths, IsSame, IsSameLoan};
 
-use event::{Event, GlobalAddress, SharedAddress, bytes_read};
-use memory::Memory;
+use event::{Event, bytes_read};
+use memory::{Global, Memory, Shared};
 
 // What is lent: the two memories, and the load record with the bytes before index `filled` in use. Three lifetimes and plain
 // slices: with one lifetime, or a `Memory` in here, nothing was known of what a caller's memories end as, and its proof did
-// not close.
+// not close. `filled` stays a number: `acted` appends at any index, and names the whole record, which a shrunk slice cannot.
 #[derive(Drop)]
 pub struct Lent<'g, 's, 'l> {
     pub global: &'g mut [u8],
@@ -50,30 +50,26 @@ impl<'g, 's, 'l> Lent<'g, 's, 'l> {
     {
         let mut global = Memory::new(self.global);
         let mut shared = Memory::new(self.shared);
-        if let Event::Load { address, size } = event {
-            let end = self.filled + (size as usize);
-            let to = &mut self.loads[self.filled..end];
-            thread::load(address, size, &global, &shared, to);
-            self.filled = end;
-        } else {
-            move_bytes(event, &mut global, &mut shared);
-        }
+        let end = self.filled + (load_size(event) as usize);
+        let read = &mut self.loads[self.filled..end];
+        move_bytes(event, &mut global, &mut shared, read);
+        self.filled = end;
     }
 }
 
-// Writes what a store, a copy, a bulk copy or a reduction writes to its memory; the other events write to none.
-fn move_bytes(
-    event: Event,
-    global: &mut Memory<'_, GlobalAddress>,
-    shared: &mut Memory<'_, SharedAddress>,
-)
-    requires { faultless (record { global = length global.old.bytes.now; shared = length shared.old.bytes.now }) event ≡ true }
+// Moves the bytes of an event. What is lent of the record to read into is as long as what a load reads, and else empty. The
+// memories are two parameters: a struct of both would promise `IsSame` of each and be taken apart in every arm.
+fn move_bytes(event: Event, global: &mut Global<'_>, shared: &mut Shared<'_>, read: &mut [u8])
+    requires faultless { faultless (record { global = length global.old.bytes.now; shared = length shared.old.bytes.now }) event ≡ true }
+    requires read_fits { length read.old ≡ load_size event }
     ensures same_global { IsSame global.old.bytes global.new.bytes }
     ensures same_shared { IsSame shared.old.bytes shared.new.bytes }
     ensures global_after { global.new.bytes.now ≡ (moved event global.old.bytes.now shared.old.bytes.now).global }
     ensures shared_after { shared.new.bytes.now ≡ (moved event global.old.bytes.now shared.old.bytes.now).shared }
+    ensures read_after { read.new ∷ [] ≡ (moved event global.old.bytes.now shared.old.bytes.now).loaded }
 {
     match event {
+        Event::Load { address, size } => thread::load(address, size, global, shared, read),
         Event::Store {
             address,
             size,
@@ -95,12 +91,8 @@ fn move_bytes(
             operation,
             element,
         } => global.reduce(dst, shared.part(src, size), operation, element),
-        Event::Load { .. }
-        | Event::Commit
-        | Event::Wait(_)
-        | Event::WaitAll
-        | Event::BulkCommit
-        | Event::BulkWait(_) => {}
+        Event::Commit | Event::Wait(_) | Event::WaitAll | Event::BulkCommit | Event::BulkWait(_) =>
+            {}
     }
 }
 

@@ -8,8 +8,8 @@ ghost use Rattle.moves.specs.Acting.{IsSame};
 use event::{ElementType, GlobalAddress, Operation, SharedAddress};
 use std::marker::PhantomData;
 
-// An address of one memory.
-pub(crate) trait Place: Copy {
+// An address of one memory. A trait, since document 01 has two types of address; crate checks takes the number of either.
+pub(crate) trait MemoryAddress: Copy {
     ghost offset: { Self → ℕ };
 
     // Its number.
@@ -17,7 +17,7 @@ pub(crate) trait Place: Copy {
         ensures { result ≡ offset self };
 }
 
-impl Place for GlobalAddress {
+impl MemoryAddress for GlobalAddress {
     ghost offset = { λ at. at.0 };
 
     fn offset(self) -> usize {
@@ -25,7 +25,7 @@ impl Place for GlobalAddress {
     }
 }
 
-impl Place for SharedAddress {
+impl MemoryAddress for SharedAddress {
     ghost offset = { λ at. at.0 };
 
     fn offset(self) -> usize {
@@ -33,14 +33,20 @@ impl Place for SharedAddress {
     }
 }
 
-// The bytes of the memory that addresses of type `A` count in: no others index them.
+// The bytes of the memory that addresses of type `A` count in: no others index them, as they would a plain slice. Each
+// function that is lent one promises that the reference in it stays (`IsSame`): else nothing is known of what was lent.
 #[derive(Drop)]
 pub(crate) struct Memory<'a, A> {
     bytes: &'a mut [u8],
     indexed_by: PhantomData<A>,
 }
 
-impl<'a, A: Place> Memory<'a, A> {
+// The two memories of a run.
+pub(crate) type Global<'a> = Memory<'a, GlobalAddress>;
+
+pub(crate) type Shared<'a> = Memory<'a, SharedAddress>;
+
+impl<'a, A: MemoryAddress> Memory<'a, A> {
     pub(crate) fn new(bytes: &'a mut [u8]) -> Memory<'a, A>
         ensures same_reference { IsSame bytes.entry result.bytes }
         ensures same_bytes { result.bytes.now ≡ bytes.old }
@@ -70,10 +76,9 @@ impl<'a, A: Place> Memory<'a, A> {
         ensures same_reference { IsSame self.old.bytes self.new.bytes }
         ensures written { self.new.bytes.now ≡ write self.old.bytes.now (A.offset at) source.now }
     {
-        let memory = &mut *self.bytes;
         let start = at.offset();
         let end = start + source.len();
-        copy_all(source, &mut memory[start..end]);
+        copy_all(source, &mut self.bytes[start..end]);
     }
 
     // Writes these bytes, and zeros after them, `size` bytes in all.
@@ -82,10 +87,9 @@ impl<'a, A: Place> Memory<'a, A> {
         ensures same_reference { IsSame self.old.bytes self.new.bytes }
         ensures written { self.new.bytes.now ≡ write self.old.bytes.now (A.offset at) (padded size source.now) }
     {
-        let memory = &mut *self.bytes;
         let start = at.offset();
         let end = start + (size as usize);
-        copy_padded(source, &mut memory[start..end]);
+        copy_padded(source, &mut self.bytes[start..end]);
     }
 
     // Combines each element of the source with the one here.
@@ -100,10 +104,9 @@ impl<'a, A: Place> Memory<'a, A> {
         ensures same_reference { IsSame self.old.bytes self.new.bytes }
         ensures combined { self.new.bytes.now ≡ write self.old.bytes.now (A.offset at) (reduce operation element (read self.old.bytes.now (A.offset at) (length source.now)) source.now) }
     {
-        let memory = &mut *self.bytes;
         let start = at.offset();
         let end = start + source.len();
-        reduction::reduce(&mut memory[start..end], source, operation, element);
+        reduction::reduce(&mut self.bytes[start..end], source, operation, element);
     }
 }
 

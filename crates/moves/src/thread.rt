@@ -7,15 +7,15 @@ ghost use Rattle.rules.specs.Events.{memory_of};
 ghost use Rattle.rules.specs.Faults.{length_of};
 ghost use Rattle.moves.specs.Acting.{IsSame};
 
-use crate::memory::{Memory, copy_all};
-use event::{Address, GlobalAddress, SharedAddress};
+use crate::memory::{Global, Shared, copy_all};
+use event::Address;
 
 // Reads `size` bytes into what is lent of the record.
 pub(crate) fn load(
     address: Address,
     size: u32,
-    global: &Memory<'_, GlobalAddress>,
-    shared: &Memory<'_, SharedAddress>,
+    global: &Global<'_>,
+    shared: &Shared<'_>,
     to: &mut [u8],
 )
     requires size_in_bounds { offset_of address + size ≤ length_of (record { global = length global.now.bytes.now; shared = length shared.now.bytes.now }) (memory_of address) }
@@ -34,8 +34,8 @@ pub(crate) fn store(
     size: u32,
     low: u64,
     high: u64,
-    global: &mut Memory<'_, GlobalAddress>,
-    shared: &mut Memory<'_, SharedAddress>,
+    global: &mut Global<'_>,
+    shared: &mut Shared<'_>,
 )
     requires size_in_bounds { offset_of address + size ≤ length_of (record { global = length global.old.bytes.now; shared = length shared.old.bytes.now }) (memory_of address) }
     requires size_bound { size ≤ 16 }

@@ -1,9 +1,12 @@
 -- The search for the first record that clashes.
 -- Assumes nothing.
-use Rattle.std.proofs.Common.{◌≡◌, ℕ, zero, suc, ◌+◌, ◌-◌, ◌<◌, true, false, List, [], ◌∷◌, ◌++◌, Option, Some, None, option_map, find, refl, sym, ap, ◌∙◌, arith, add-one, append_assoc, append-nil}
-use Rattle.std.specs.Option.{option_or}
+use Rattle.std.proofs.Common.{◌≡◌, ℕ, zero, suc, List, [], ◌∷◌, ◌++◌, Option, Some, None, option_map, find, refl, ap, ◌∙◌, add-one}
+use Rattle.std.specs.Option.{option_or, MatchOption, IsSomeAnd}
 use Rattle.std.proofs.lemmas.List.Folds.{find-append}
-use native.Mathlib.Nat.{add-zero, add-suc}
+use Rattle.std.specs.List.{range_with_len}
+use Rattle.std.proofs.lemmas.List.FromFn.{map-range_with_len_more}
+use native.Mathlib.Nat.{zero-add}
+use mathlib.Core.List.{map}
 use Rattle.operations.specs.declared.Record.{Record}
 use Rattle.operations.specs.Table.{record_at, records}
 use Rattle.operations.specs.Clash.{clash_of, first_clash}
@@ -18,28 +21,19 @@ first-append event rs ss = rw find-append (by_first (find (clash_of event) rs) (
     by_first (Some r) next = refl
     by_first None next = refl
 
--- More records stand behind the first.
-more-records : (ranges marks : List ℕ) (n d : ℕ)
-    → (rest : List Record) × (records (n + d) ranges marks ≡ records n ranges marks ++ rest)
+-- The records at the indices, in order, are the records.
+pub records_read : (ranges marks : List ℕ) (n : ℕ) → map (record_at ranges marks) (range_with_len 0 n) ≡ records n ranges marks
 unfolding records
-more-records ranges marks n zero = ([], rw (add-zero, append-nil))
-more-records ranges marks n (suc d) =
-    let (rest, e) = more-records ranges marks n d in
-    (rest ++ record_at ranges marks (n + d) ∷ [], rw (add-suc n d, e, append_assoc))
+records_read ranges marks zero = refl
+records_read ranges marks (suc n) =
+    let more = map-range_with_len_more (record_at ranges marks) 0 n n (zero-add n) in
+    rw add-one at more ∙ ap (λ rs. rs ++ record_at ranges marks n ∷ []) (records_read ranges marks n)
 
-module _ (event : Record) (ranges marks : List ℕ) (k : ℕ) (found : first_clash event (records k ranges marks) ≡ None) where
-  next : first_clash event (records (suc k) ranges marks) ≡ first_clash event (record_at ranges marks k ∷ [])
-  unfolding records
-  next = first-append event (records k ranges marks) (record_at ranges marks k ∷ []) ∙ rw found
-
-  pub none_yet : clash_of event (record_at ranges marks k) ≡ false → first_clash event (records (k + 1) ranges marks) ≡ None
-  none_yet h = rw add-one (next ∙ rw h)
-
-  pub found_here : (n : ℕ) → k < n → clash_of event (record_at ranges marks k) ≡ true
-      → first_clash event (records n ranges marks) ≡ Some (record_at ranges marks k).event
-  found_here n l h =
-      let (rest, e) = more-records ranges marks (suc k) (n - suc k) in
-      let all : suc k + (n - suc k) ≡ n = omega arith in
-      let here : first_clash event (records (suc k) ranges marks) ≡ Some (record_at ranges marks k).event = next ∙ rw h in
-      ap (λ m. first_clash event (records m ranges marks)) (sym all)
-      ∙ ap (first_clash event) e ∙ first-append event (records (suc k) ranges marks) rest ∙ rw here
+-- The event of what was found is that of the first.
+pub event_found : (found : Option Record) (told : Option ℕ) {P : Record → ℕ → Type 0} {first : Option Record}
+    → MatchOption found (told ≡ None) (λ r. IsSomeAnd told (P r))
+    → ((r : Record) (event : ℕ) → P r event → event ≡ r.event)
+    → found ≡ first → told ≡ option_map (λ (r : Record). r.event) first
+event_found None told h p e = h ∙ ap (option_map (λ (r : Record). r.event)) e
+event_found (Some r) None h p e = absurd h
+event_found (Some r) (Some event) h p e = ap Some (p r event h) ∙ ap (option_map (λ (r : Record). r.event)) e

@@ -5,7 +5,7 @@ ghost use Rattle.operations.specs.Clash.{ShareByte, clash_of};
 use crate::tag::{may_share, written_in};
 use crate::{Range, Record};
 
-// Whether some byte is in both.
+// Whether some byte is in both. The body stays in this form, which a later request replaces.
 pub(crate) fn overlap(a: Range, b: Range) -> bool
     ensures { (result ≡ true) ↔ ShareByte a b }
 {

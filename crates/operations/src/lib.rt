@@ -3,6 +3,8 @@
 
 #![tactic(auto)]
 
+ghost use Rattle.std.specs.Prelude.{◌≡◌};
+
 mod clash;
 mod closing;
 mod table;
@@ -12,12 +14,22 @@ mod tag;
 // write, and `put` and `close` would have to promise besides that it holds the same two afterwards.
 pub use closing::close;
 pub use table::{first_clash, put};
+pub use tag::{CHAIN_PLACE, OPERATION_PLACE, TYPE_PLACE};
 
 // Bytes of one memory. They may reach past its end, and past the last number of an address.
 #[derive(Clone, Copy)]
 pub struct Range {
     pub start: u32,
     pub length: u32,
+}
+
+impl Range {
+    pub fn new(start: u32, length: u32) -> Range
+        ensures starts { result.start ≡ start }
+        ensures extends { result.length ≡ length }
+    {
+        Range { start, length }
+    }
 }
 
 // An open operation, or an event that is compared with it: what it writes and reads, its event, how many groups its chain

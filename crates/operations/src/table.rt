@@ -47,17 +47,13 @@ pub fn put(ranges: &mut [u32], marks: &mut [u32], index: u32, operation: Record)
     marks[word + 3] = 0;
 }
 
-// The event of the first record, of so many, that the event clashes with: with records in event order, the lowest. A loop by
-// index: the closures of a chain would each need `record_at`'s `requires` written out.
+// The event of the first record, of so many, that the event clashes with: with records in event order, the lowest.
 pub fn first_clash(ranges: &[u32], marks: &[u32], count: u32, event: Record) -> Option<u32>
     requires { (4 * count ≤ length ranges.now) × (4 * count ≤ length marks.now) }
     ensures { result ≡ first_clash event (records count ranges.now marks.now) }
 {
-    for index in 0..count {
-        let operation = record_at(ranges, marks, index);
-        if clashes(event, operation) {
-            return Some(operation.event);
-        }
-    }
-    None
+    (0..count)
+        .map(|index| record_at(ranges, marks, index))
+        .find(|operation| clashes(event, *operation))
+        .map(|operation| operation.event)
 }

@@ -5,31 +5,38 @@ ghost use Rattle.operations.specs.Tag.{chain_digit, written_in, chain_in, reduct
 
 use crate::Chain;
 
-impl Chain {
-    pub fn digit(self) -> u32
-        ensures { result ≡ chain_digit self }
-    {
-        self as u32
+// What a digit of a tag is worth, the memory's being worth 1.
+pub const CHAIN_PLACE: u32 = 16;
+
+pub const OPERATION_PLACE: u32 = 256;
+
+pub const TYPE_PLACE: u32 = 4096;
+
+impl From<Chain> for u32 {
+    ghost from_gives = { λ chain digit. digit ≡ chain_digit chain };
+
+    fn from(chain: Chain) -> u32 {
+        chain as u32
     }
 }
 
 pub(crate) fn written_in(tag: u32) -> u32
     ensures { result ≡ written_in tag }
 {
-    tag % 16
+    tag % CHAIN_PLACE
 }
 
 pub(crate) fn chain_in(tag: u32) -> u32
     ensures { result ≡ chain_in tag }
 {
-    tag / 16 % 16
+    tag % OPERATION_PLACE / CHAIN_PLACE
 }
 
 // Operation and type together; 0 is no reduction.
 fn reduction_in(tag: u32) -> u32
     ensures { result ≡ reduction_in tag }
 {
-    tag / 256
+    tag / OPERATION_PLACE
 }
 
 // Whether the two are reductions of one operation and one type.

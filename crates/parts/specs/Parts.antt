@@ -12,6 +12,7 @@ use Rattle.operations.specs.declared.Chain.{Chain}
 use Rattle.operations.specs.declared.Chain.TheVariants.{Copies, Bulk}
 use Rattle.operations.specs.declared.Memory.TheVariants as memory
 use Rattle.operations.specs.declared.Range.{Range}
+use Rattle.operations.specs.declared.Record.{Record}
 use Rattle.operations.specs.declared.Wait.{Wait}
 use Rattle.operations.specs.Tag.{memory_digit, chain_digit, tag_of}
 use Rattle.parts.specs.declared.GroupsMade.{GroupsMade}
@@ -31,6 +32,11 @@ reduction_tag operation element =
 
 abbrev pub bytes : ℕ → ℕ → Range
 bytes start length = record { start = start; length = length }
+
+-- The record of an event that touches no byte yet.
+abbrev pub blank : ℕ → ℕ → ℕ → Record
+blank event commits tag =
+    record { writes = bytes 0 0; reads = bytes 0 0; event = event; commits = commits; tag = tag }
 
 abbrev pub access_part : ℕ → Range → Range → ℕ → Part
 access_part number writes reads tag =
@@ -60,6 +66,9 @@ committed Bulk made = record { copies = made.copies; bulk = made.bulk + 1 }
 
 abbrev pub wait_on : Chain → GroupsMade → ℕ → Wait
 wait_on chain made newest = record { chain = chain_digit chain; commits = groups_in chain made; newest = newest }
+
+abbrev pub wait_part : Chain → GroupsMade → ℕ → Part
+wait_part chain made newest = part.Wait made (wait_on chain made newest)
 
 -- What event `number` is, before which the chains have made these groups.
 abbrev pub part_of : ℕ → GroupsMade → Event → Part

@@ -3,10 +3,10 @@
 #![tactic(auto)]
 
 ghost use Rattle.std.specs.Prelude.{◌≡◌, ◌<◌};
-ghost use Rattle.parts.specs.Parts.{bytes, access_part, load_part, store_part, operation_part, reduction_tag, groups_in, committed, wait_on, part_of};
+ghost use Rattle.parts.specs.Parts.{bytes, blank, load_part, store_part, operation_part, reduction_tag, groups_in, committed, wait_part, part_of};
 
 use event::{Address, ElementType, Event, GlobalAddress, Operation, SharedAddress, bytes_read};
-use operations::{Chain, Memory, Range, Record, Wait};
+use operations::{CHAIN_PLACE, Chain, Memory, OPERATION_PLACE, Range, Record, TYPE_PLACE, Wait};
 
 // How many groups each chain has made: that of the non-bulk copies, and the bulk one.
 #[derive(Clone, Copy)]
@@ -52,29 +52,30 @@ impl GroupsMade {
         }
     }
 
-    // A wait on the chain that leaves so many of its newest groups open.
-    fn wait(self, chain: Chain, newest: u32) -> Wait
-        ensures { result ≡ wait_on chain self newest }
+    // A wait on the chain that leaves so many of its newest groups open. It makes none.
+    fn wait(self, chain: Chain, newest: u32) -> Part
+        ensures { result ≡ wait_part chain self newest }
     {
-        Wait {
-            chain: chain.digit(),
+        let wait = Wait {
+            chain: u32::from(chain),
             commits: self.of(chain),
             newest,
-        }
+        };
+        Part::Wait(self, wait)
     }
 }
 
 // The parts of a tag, as crate `operations` reads them, are digits of base 16: the memory that is written, the chain that
-// closes the operation. A tag is a number: see `Record` ..
-const COPY_TAG: u32 = Memory::Shared as u32 + 16 * (Chain::Copies as u32);
+// closes the operation. A tag is a number: see `Record`. `as`, since a constant's value may not call `u32::from` ..
+const COPY_TAG: u32 = Memory::Shared as u32 + CHAIN_PLACE * (Chain::Copies as u32);
 
-const BULK_TAG: u32 = Memory::Global as u32 + 16 * (Chain::Bulk as u32);
+const BULK_TAG: u32 = Memory::Global as u32 + CHAIN_PLACE * (Chain::Bulk as u32);
 
 // .. and, of a reduction, its operation, from 1 on, and its type.
 fn reduction_tag(operation: Operation, element: ElementType) -> u32
     ensures { result ≡ reduction_tag operation element }
 {
-    BULK_TAG + 256 * (1 + u32::from(operation)) + 4096 * u32::from(element)
+    BULK_TAG + OPERATION_PLACE * (1 + u32::from(operation)) + TYPE_PLACE * u32::from(element)
 }
 
 // What event `number` is, before which the chains have made these groups.
@@ -91,17 +92,17 @@ pub fn part_of(number: u32, made: GroupsMade, event: Event) -> Part
             cp_size,
             mode,
             ..
-        } => {
-            let read = bytes(src.0, bytes_read(mode, cp_size));
-            opened(number, made.copies, bytes(dst.0, cp_size), read, COPY_TAG)
-        }
+        } => Part::Operation(Record {
+            writes: Range::new(dst.0, cp_size),
+            reads: Range::new(src.0, bytes_read(mode, cp_size)),
+            ..blank(number, made.copies, COPY_TAG)
+        }),
         Event::Commit => Part::Commit(made.commit(Chain::Copies)),
-        Event::Wait(newest) => Part::Wait(made, made.wait(Chain::Copies, newest)),
-        Event::WaitAll => {
-            let made = made.commit(Chain::Copies);
-            Part::Wait(made, made.wait(Chain::Copies, 0))
+        Event::Wait(newest) => made.wait(Chain::Copies, newest),
+        Event::WaitAll => made.commit(Chain::Copies).wait(Chain::Copies, 0),
+        Event::BulkCopy { dst, src, size } => {
+            bulk(blank(number, made.bulk, BULK_TAG), dst, src, size)
         }
-        Event::BulkCopy { dst, src, size } => bulk(number, made, dst, src, size, BULK_TAG),
         Event::BulkReduction {
             dst,
             src,
@@ -110,80 +111,62 @@ pub fn part_of(number: u32, made: GroupsMade, event: Event) -> Part
             element,
         } => {
             let tag = reduction_tag(operation, element);
-            bulk(number, made, dst, src, size, tag)
+            bulk(blank(number, made.bulk, tag), dst, src, size)
         }
         Event::BulkCommit => Part::Commit(made.commit(Chain::Bulk)),
-        Event::BulkWait(newest) => Part::Wait(made, made.wait(Chain::Bulk, newest)),
+        Event::BulkWait(newest) => made.wait(Chain::Bulk, newest),
+    }
+}
+
+// The record of an event that touches no byte, before which its chain has made so many groups. What it does touch is put in.
+fn blank(event: u32, commits: u32, tag: u32) -> Record
+    ensures { result ≡ blank event commits tag }
+{
+    Record {
+        writes: Range::new(0, 0),
+        reads: Range::new(0, 0),
+        event,
+        commits,
+        tag,
     }
 }
 
 // A load from global memory writes nothing and has the tag of a copy, which reads there too; the others have theirs
-// likewise.
+// likewise. No wait closes an access of the thread.
 fn load(number: u32, address: Address, size: u32) -> Part
     ensures { result ≡ load_part number address size }
 {
-    match address {
-        Address::Global(at) => access(number, bytes(0, 0), bytes(at.0, size), COPY_TAG),
-        Address::Shared(at) => access(number, bytes(0, 0), bytes(at.0, size), BULK_TAG),
-    }
+    let (start, tag) = match address {
+        Address::Global(at) => (at.0, COPY_TAG),
+        Address::Shared(at) => (at.0, BULK_TAG),
+    };
+    Part::Access(Record {
+        reads: Range::new(start, size),
+        ..blank(number, 0, tag)
+    })
 }
 
+// No twin of a load: it touches on the other side, and its tags go crosswise.
 fn store(number: u32, address: Address, size: u32) -> Part
     ensures { result ≡ store_part number address size }
 {
-    match address {
-        Address::Global(at) => access(number, bytes(at.0, size), bytes(0, 0), BULK_TAG),
-        Address::Shared(at) => access(number, bytes(at.0, size), bytes(0, 0), COPY_TAG),
-    }
-}
-
-// No wait closes an access of the thread.
-fn access(number: u32, writes: Range, reads: Range, tag: u32) -> Part
-    ensures { result ≡ access_part number writes reads tag }
-{
+    let (start, tag) = match address {
+        Address::Global(at) => (at.0, BULK_TAG),
+        Address::Shared(at) => (at.0, COPY_TAG),
+    };
     Part::Access(Record {
-        writes,
-        reads,
-        event: number,
-        commits: 0,
-        tag,
+        writes: Range::new(start, size),
+        ..blank(number, 0, tag)
     })
 }
 
-fn bulk(
-    number: u32,
-    made: GroupsMade,
-    dst: GlobalAddress,
-    src: SharedAddress,
-    size: u32,
-    tag: u32,
-) -> Part
-    ensures { result ≡ operation_part number made.bulk (bytes dst.0 size) (bytes src.0 size) tag }
-{
-    opened(
-        number,
-        made.bulk,
-        bytes(dst.0, size),
-        bytes(src.0, size),
-        tag,
-    )
-}
-
-// An operation, which is open from here on.
-fn opened(number: u32, commits: u32, writes: Range, reads: Range, tag: u32) -> Part
-    ensures { result ≡ operation_part number commits writes reads tag }
+// A bulk operation, from a record that touches no byte yet.
+fn bulk(operation: Record, dst: GlobalAddress, src: SharedAddress, size: u32) -> Part
+    ensures { result ≡ operation_part operation.event operation.commits (bytes dst.0 size) (bytes src.0 size) operation.tag }
 {
     Part::Operation(Record {
-        writes,
-        reads,
-        event: number,
-        commits,
-        tag,
+        writes: Range::new(dst.0, size),
+        reads: Range::new(src.0, size),
+        ..operation
     })
-}
-
-fn bytes(start: u32, length: u32) -> Range
-    ensures { result ≡ bytes start length }
-{
-    Range { start, length }
 }

@@ -1,3 +1,2 @@
--- Laws of elements, over their width, and of their order.
+-- Laws of elements, over their width.
 pub mod Elements
-pub mod Order

@@ -1,35 +1,33 @@
 // One element combined with another.
 ghost use Rattle.std.specs.Prelude.{◌≡◌};
-ghost use Rattle.effect.specs.Element.{rank, combined};
+ghost use Rattle.effect.specs.Element.{is_signed, combined};
 
-use event::Operation;
-use std::cmp::{max_by_key, min_by_key};
+use event::{ElementType, Operation};
 
-// Destination combined with source. Of two numbers in one place, Min and Max keep the destination's.
-pub(crate) fn combined(operation: Operation, signed: bool, destination: u32, source: u32) -> u32
-    ensures { result ≡ combined operation signed 4 destination source }
+// Destination combined with source. Chosen anew for each element: a closure for each choice would be eight loops for this
+// one, and `reduce` no shorter.
+pub(crate) fn combined(
+    operation: Operation,
+    element: ElementType,
+    destination: u32,
+    source: u32,
+) -> u32
+    ensures { result ≡ combined operation (is_signed element) 4 destination source }
 {
-    let place = |number: &u32| rank(signed, *number);
-    match operation {
-        Operation::And => destination & source,
-        Operation::Or => destination | source,
-        Operation::Xor => destination ^ source,
-        Operation::Add => destination.wrapping_add(source),
-        Operation::Min => min_by_key(destination, source, place),
-        Operation::Max => max_by_key(source, destination, place),
+    match (operation, element) {
+        (Operation::And, _) => destination & source,
+        (Operation::Or, _) => destination | source,
+        (Operation::Xor, _) => destination ^ source,
+        (Operation::Add, _) => destination.wrapping_add(source),
+        (Operation::Min, ElementType::S32) => {
+            let least = destination.cast_signed().min(source.cast_signed());
+            least.cast_unsigned()
+        }
+        (Operation::Max, ElementType::S32) => {
+            let greatest = destination.cast_signed().max(source.cast_signed());
+            greatest.cast_unsigned()
+        }
+        (Operation::Min, ElementType::B32 | ElementType::U32) => destination.min(source),
+        (Operation::Max, ElementType::B32 | ElementType::U32) => destination.max(source),
     }
 }
-
-// The place of a number in the order: as two's complement the upper half comes before the lower.
-fn rank(signed: bool, number: u32) -> u32
-    ensures { result ≡ rank signed 4 number }
-{
-    if signed {
-        number.wrapping_add(HALF)
-    } else {
-        number
-    }
-}
-
-// Half of the numbers of four bytes.
-const HALF: u32 = 1 << 31;

@@ -26,7 +26,7 @@ fn load_size_of(item: Item) -> u32
     moves::load_size(event)
 }
 
-// All events of an accepted list act, in order. The loads fit.
+// All events of an accepted list act, in order. The loads fit. The three slices come as `run` is lent them.
 pub(crate) fn act_all(file: &File<'_>, global: &mut [u8], shared: &mut [u8], loads: &mut [u8])
     requires accepted { IsAccepted (answer_of (record { global = length global.now; shared = length shared.old }) file.now.items) }
     requires loads_fit { load_bytes file.now.items ≤ length loads.old }

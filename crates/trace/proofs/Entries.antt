@@ -1,22 +1,25 @@
 -- What the first entries come to with one more, what is held of a file, and the way from one body to the next.
 -- Assumes nothing.
-use Prim.Native.Nat.{ℕ, zero, suc, ◌+◌, ◌*◌, ◌-◌, ◌≤◌, ◌<◌}
+use Prim.Native.Nat.{ℕ, zero, suc, ◌+◌, ◌*◌, ◌-◌, ◌/◌, ◌≤◌, ◌<◌}
 use mathlib.Core.Path.{◌≡◌, refl, sym, ap, ap₂, ◌∙◌}
 use mathlib.Core.Bool.{◌&&◌, and-true}
 use mathlib.Core.List.{List, [], ◌∷◌, ◌++◌, map, append_assoc}
 use native.Mathlib.Omega.{arith}
 use native.Mathlib.Numerals.{add-one}
-use Rattle.std.specs.List.{sum, list_all, range_with_len}
-use Rattle.std.proofs.lemmas.List.Folds.{list_all-append}
+use Rattle.std.specs.List.{sum, list_all, range_with_len, slice_range}
+use Rattle.std.specs.Simd.{first_chunks}
+use Rattle.std.proofs.lemmas.List.Folds.{list_all-append, list_all-map}
 use Rattle.std.proofs.lemmas.List.FromFn.{sum_by-map-range_with_len_more}
-use Rattle.little_endian.specs.Number.{Bytes}
-use Rattle.little_endian.proofs.Widths.{bounded}
+use Rattle.little_endian.specs.Number.{Bytes, is_zero, number_at}
+use Rattle.little_endian.proofs.Widths.{bounded, number-take, number-drop}
 use native.Mathlib.Nat.{add-zero, zero-add}
-use lib.ListN.{length, take, drop, drop_of_length-le}
+use lib.ListN.{length, get_or, take, drop, drop_of_length-le}
+use lib.Seq.{get_or-take, get_or-drop, take-take, drop-drop}
+use Rattle.std.proofs.lemmas.List.{drop-take}
 use Rattle.std.proofs.lemmas.List.{drop_at}
 use borrow.Author.Tests.{le-leb, lt-leb}
 use Rattle.trace.specs.declared.Entry.{Entry}
-use Rattle.trace.specs.File.{entry_at, kind_in, entry_zero, body_length_in, entries_zero, body_lengths, first_items}
+use Rattle.trace.specs.File.{entry_at, kind_in, entry_zero, body_length_in, entries_zero, body_lengths, body_start, first_items}
 use Rattle.decoder.specs.Kinds.{decode_of, overlong}
 use Rattle.trace.specs.Beginning.{entry_in, held_item, held_item_in, IsAtBody, items_from}
 use Rattle.trace.proofs.Faults.{length-first, further}
@@ -94,15 +97,57 @@ one_left f n i few =
     first ∙ ap (λ l. item i ∷ l) (sym later)
 
 -- A walk that is at the body of event i has its item, and comes to the next body.
-pub walked : (f : List ℕ) (n i start : ℕ) (entry : Entry) → IsAtBody f n i start → i < n → entry ≡ entry_in f i → entry.length < 4294967296
+pub walked : (f : List ℕ) (i start : ℕ) (entry : Entry) → start ≡ body_start f i → entry ≡ entry_in f i → entry_at i + 4 ≤ length f
+    → (held_item f start entry ≡ held_item_in f i) × (start + entry.length ≡ body_start f (i + 1))
+walked f i start entry at is table =
+    let added = ap (λ (e : Entry). e.length) (is ∙ whole_entry f i table) in
+    (ap₂ (held_item f) at is, omega (arith, at, added, more-lengths f i))
+
+-- So it stays at a body, as long as the table has an entry.
+pub walks_on : (f : List ℕ) (n i start : ℕ) (entry : Entry) → IsAtBody f n i start → i < n → entry ≡ entry_in f i → entry.length < 4294967296
     → (held_item f start entry ≡ held_item_in f i) × IsAtBody f n (i + 1) (start + entry.length)
-walked f n i start entry at few is fits =
-    let table : entry_at i + 4 ≤ length f = omega (arith, at.table.held) in
-    let added = ap (λ (e : Entry). e.length) (is ∙ whole_entry f i table) in (
-      ap₂ (held_item f) at.starts is,
-      record {
-        table = at.table;
-        starts = omega (arith, at.starts, added, more-lengths f i);
-        near = omega (arith, at.near);
-      },
-    )
+walks_on f n i start entry at few is fits =
+    let (here, next) = walked f i start entry at.starts is (omega (arith, at.table.held)) in
+    (here, record { table = at.table; starts = next; near = omega (arith, at.near) })
+
+-- ---- The table, cut into its entries.
+
+-- What is read of each entry by itself is what is read at its place in the file.
+cut : {X : Type 0} (f : List ℕ) (told : List ℕ → X) (there : ℕ → X) → ((j : ℕ) → told (take 4 (drop (entry_at j) f)) ≡ there j)
+    → (k i m : ℕ) → 4 * k ≤ m → map told (first_chunks 4 k (take m (drop (entry_at i) f))) ≡ map there (range_with_len i k)
+cut f told there same zero i m long = refl
+cut f told there same (suc k) i m long =
+    let rest = drop (entry_at i) f in
+    let split : 4 + (m - 4) ≡ m = omega arith in
+    let next : entry_at i + 4 ≡ entry_at (i + 1) = omega arith in
+    let here : take 4 (take m rest) ≡ take 4 rest = take-take 4 m rest (omega arith) in
+    let on = ap (λ l. drop 4 (take l rest)) (sym split) ∙ drop-take 4 (m - 4) rest
+    ∙ ap (take (m - 4)) (drop-drop 4 (entry_at i) f ∙ ap (λ a. drop a f) next) in
+    ap₂ ◌∷◌ (ap told here ∙ same i) (ap (λ l. map told (first_chunks 4 k l)) on ∙ cut f told there same k (i + 1) (m - 4) (omega arith))
+
+-- The table of n events, in pieces of an entry each.
+abbrev pub pieces : List ℕ → ℕ → List (List ℕ)
+pieces f n = first_chunks 4 n (take (4 * n) (drop 12 f))
+
+pub lengths_of_pieces : (f : List ℕ) (n : ℕ) → sum (map (λ entry. number_at 2 entry 2) (pieces f n)) ≡ body_lengths f n
+lengths_of_pieces f n =
+    ap sum (cut f (λ entry. number_at 2 entry 2) (body_length_in f)
+    (λ j. number-take 2 4 (drop (entry_at j) f) 2 (omega arith) ∙ number-drop 2 (entry_at j) f 2) n 0 (4 * n) (omega arith))
+    ∙ lengths_added f n
+
+pub zero_in_pieces : (f : List ℕ) (n : ℕ) → list_all (λ entry. is_zero (get_or entry 1 0)) (pieces f n) ≡ entries_zero f n
+zero_in_pieces f n =
+    sym (list_all-map (λ b. b) (λ entry. is_zero (get_or entry 1 0)) (pieces f n))
+    ∙ ap (list_all (λ b. b)) (cut f (λ entry. is_zero (get_or entry 1 0)) (entry_zero f)
+    (λ j. ap is_zero (get_or-take 4 (drop (entry_at j) f) 1 0 (omega arith) ∙ get_or-drop (entry_at j) f 1 0)) n 0 (4 * n) (omega arith))
+    ∙ list_all-map (λ b. b) (entry_zero f) (range_with_len 0 n)
+    ∙ each-zero f n
+
+-- So the table is cut, wherever it ends.
+pub cut_up : (f : List ℕ) (n end : ℕ) (table : List ℕ) → end ≡ entry_at n → table ≡ slice_range f 12 end → length table + 12 ≡ end
+    → first_chunks 4 (length table / 4) table ≡ pieces f n
+cut_up f n end table is at long =
+    let size : length table ≡ 4 * n = omega (arith, is, long) in
+    let many : length table / 4 ≡ n = omega (arith, size) in
+    let wide : end - 12 ≡ 4 * n = omega (arith, is) in
+    ap (λ k. first_chunks 4 k table) many ∙ ap (first_chunks 4 n) (at ∙ ap (λ m. take m (drop 12 f)) wide)

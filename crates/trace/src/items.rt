@@ -4,15 +4,15 @@ ghost use Rattle.answer.specs.Table.{event_limit};
 ghost use Rattle.trace.specs.Beginning.{entry_in, held_item, or_fault, check_of};
 
 use crate::file::{File, open};
-use crate::table::{ENTRY_LENGTH, entry_at};
+use crate::table::{ENTRY_LENGTH, HEADER_LENGTH, entry_at};
 use crate::{Entry, Header};
 use answer::{Answer, EVENT_LIMIT};
-use decoder::Item;
+use decoder::{Item, LONGEST_BODY};
 use little_endian::number_at;
 
 // So many first bytes of a file, with its length, decide on `check` and on the answers of a judge and of a run: the header,
 // and for each event its entry and the longest body.
-pub const ENOUGH: usize = 12 + 28 * (EVENT_LIMIT as usize);
+pub const ENOUGH: usize = HEADER_LENGTH + (ENTRY_LENGTH + LONGEST_BODY) * (EVENT_LIMIT as usize);
 
 // The header of a file all of whose events decode, or the first of 2 to 7 that the file gets.
 pub fn check(beginning: &[u8], total: usize) -> Result<Header, Answer>

@@ -1,13 +1,13 @@
 // The shape of a file: its header, its table and its length.
-ghost use Rattle.std.specs.Prelude.{◌≡◌, ◌+◌, ◌*◌, ◌≤◌, length};
+ghost use Rattle.std.specs.Prelude.{◌≡◌, ◌≤◌, length};
 ghost use Rattle.answer.specs.Table.{event_limit};
-ghost use Rattle.trace.specs.File.{events_in, header_in, entry_at, entries_zero, body_lengths, is_shape, shape_of};
+ghost use Rattle.trace.specs.File.{events_in, header_in, entry_at, is_shape, shape_of};
 
 use crate::Header;
 use answer::{Answer, EVENT_LIMIT};
 use little_endian::number_at;
 
-const HEADER_LENGTH: usize = 12;
+pub(crate) const HEADER_LENGTH: usize = 12;
 
 pub(crate) const ENTRY_LENGTH: usize = 4;
 
@@ -54,32 +54,19 @@ fn header_in(beginning: &[u8]) -> Header
 
 // Whether the table is held, the file's length is what it says, and the reserved bytes are zero.
 fn is_shape(beginning: &[u8], events: u32, total: usize) -> bool
-    requires { (12 ≤ length beginning.now) × (events ≡ events_in beginning.now) }
+    requires { events ≡ events_in beginning.now }
     ensures { result ≡ is_shape beginning.now total }
 {
     let bodies = entry_at(events);
-    if beginning.len() < bodies {
+    let Some(table) = beginning.get(HEADER_LENGTH..bodies) else {
         return false;
-    }
-    (total == bodies + body_lengths(beginning, events))
+    };
+    let (entries, _) = table.as_chunks::<ENTRY_LENGTH>();
+    let lengths: usize = entries
+        .iter()
+        .map(|entry| usize::from(number_at::<u16>(entry, 2)))
+        .sum();
+    (total == bodies + lengths)
         & (number_at::<u16>(beginning, 2) == 0)
-        & entries_zero(beginning, events)
-}
-
-// The body lengths of the first `events` entries together.
-fn body_lengths(beginning: &[u8], events: u32) -> usize
-    requires { entry_at events ≤ length beginning.now }
-    ensures { (result ≡ body_lengths beginning.now events) × (result ≤ 65535 * events) }
-{
-    (0..events)
-        .map(|event| usize::from(number_at::<u16>(beginning, entry_at(event) + 2)))
-        .sum()
-}
-
-// Whether the zero bytes of the first `events` entries are zero.
-fn entries_zero(beginning: &[u8], events: u32) -> bool
-    requires { entry_at events ≤ length beginning.now }
-    ensures { result ≡ entries_zero beginning.now events }
-{
-    (0..events).all(|event| beginning[entry_at(event) + 1] == 0)
+        & entries.iter().all(|entry| entry[1] == 0)
 }

@@ -35,8 +35,8 @@ written_body a = go (fit (numbers_of a)) refl
     go true e = rw e
     go false e = rw e
 
--- A body, put into a sheet that has none yet.
-pub put_body : (body : ℕ) → sets (4 ∷ 0 ∷ 8 ∷ replicate 9 0) 4 (bytes_of 8 body) ≡ sheet_with body
+-- A table and a body, put into a sheet that has none yet.
+pub put_body : (body : ℕ) → sets (sets (sets (replicate 12 0) 0 (bytes_of 2 4)) 2 (bytes_of 2 8)) 4 (bytes_of 8 body) ≡ sheet_with body
 unfolding bytes_of
 put_body body = refl
 

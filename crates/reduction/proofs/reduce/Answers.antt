@@ -1,13 +1,13 @@
 -- `reduce` meets its contract: the elements still to be combined make of the bytes so far what is promised.
 use Rattle.std.proofs.Common.{◌≡◌, suc, ◌+◌, ◌*◌, ◌-◌, ◌/◌, ◌≤◌, length, sym, ap, ◌∙◌, arith}
-use Rattle.effect.specs.Element.{combined}
+use Rattle.effect.specs.Element.{is_signed, combined}
 use Rattle.reduction.proofs.Elements.{combined_from, one_more}
 use Rattle.reduction.proofs.reduce.Goals as goal
 
 pub loop-index-preserved : goal.loop-index-preserved
 loop-index-preserved c =
     let loop = c.loop-index in
-    let f = combined c.args.operation c.is_signed-signed.result 4 in
+    let f = combined c.args.operation (is_signed c.args.element) 4 in
     let xs = c.args.source.now in
     let count = length c.args.destination.now / 4 in
     let at = loop.index * 4 in

@@ -23,12 +23,6 @@ returns-then-loads-load_bytes c =
     rw (← c.header.ensures.item_each)
     (lent_no_room file.header file.items before (lent-lengths file.header before c.requires) judged.result judged.ensures (ap code_of c.in-Accepted.is) over)
 
-pub act_all-requires : goal.act_all-requires
-act_all-requires c = record {
-  accepted = rw (← c.requires, ← c.judge_file-answer.ensures) (ap code_of c.in-Accepted.is);
-  loads_fit = rw c.load_bytes.ensures at c.if-loads-load_bytes.false;
-}
-
 pub returns : goal.returns
 returns c =
     let a = c.args in

@@ -1,23 +1,22 @@
--- `first_clash` meets its contract: none of the records before the index clashes.
-use Rattle.std.proofs.Common.{refl, sym, ap, ◌∙◌, Some}
-use Rattle.operations.specs.Table.{records}
+-- `first_clash` meets its contract: the records are read in order, and searched.
+use Rattle.std.proofs.Common.{rules, tests, refl, sym, ap, ◌∙◌, arith, find}
+use Rattle.std.proofs.lemmas.Iterator.{YieldsList-from_map, YieldsList-from_range}
+use Rattle.std.proofs.lemmas.Iterator.Adapters.{option_map_id}
+use Rattle.std.proofs.lemmas.Iterator.Consumers.{YieldsList-at}
+use Rattle.std.proofs.lemmas.Iterator.Search.{find_from_yields_List}
+use Rattle.operations.specs.Table.{record_at}
 use Rattle.operations.specs.Clash.{clash_of}
-use Rattle.operations.proofs.Searching.{none_yet, found_here}
+use Rattle.operations.proofs.Searching.{records_read, event_found}
 use Rattle.operations.proofs.table.first_clash.Goals as goal
 
-pub loop-index-init : goal.loop-index-init
-unfolding records
-loop-index-init c = refl
-
-pub returns-then-clashes : goal.returns-then-clashes
-returns-then-clashes c =
+pub returns : goal.returns
+returns c =
     let a = c.args in
-    let read = c.record_at-operation.ensures in
-    let clashes = ap (clash_of a.event) (sym read) ∙ sym c.clashes.ensures ∙ c.if-clashes.true in
-    ap (λ o. Some o.event) read
-    ∙ sym (found_here a.event _ _ _ c.loop-index.invariant a.count c.loop-index-test.true clashes)
-
-pub loop-index-preserved : goal.loop-index-preserved
-loop-index-preserved c =
-    let passes = ap (clash_of c.args.event) (sym c.record_at-operation.ensures) ∙ sym c.clashes.ensures ∙ c.if-clashes.false in
-    none_yet c.args.event _ _ _ c.loop-index.invariant passes
+    event_found c.find.result c.map-2.result c.map-2.ensures.cases (λ x n p. search rules)
+    (
+    sym (option_map_id c.find.result)
+    ∙ find_from_yields_List (clash_of a.event) _ _ c.find.result c.find.ensures.ran
+    (YieldsList-from_map _ (record_at a.ranges.now a.marks.now) (YieldsList-at c.map.ensures.source (YieldsList-from_range 0 a.count a.count refl (omega arith))) c.map.ensures.closure (λ x r q k. search rules))
+    (λ x b q k. search (rules, tests))
+    ∙ ap (find (clash_of a.event)) (records_read a.ranges.now a.marks.now a.count)
+    )

@@ -1,20 +1,11 @@
 -- `events::load_bytes` meets its contract: no more items come than the limit, and the sum of their loads fits.
-use native.Mathlib.Omega.{arith}
-use mathlib.Core.Path.{refl, ◌∙◌}
-use borrow.Author.Tests.{tests}
+use mathlib.Core.Path.{◌∙◌}
 use Rattle.std.proofs.Common.{rules}
 use Rattle.std.proofs.lemmas.Iterator.{YieldsList-from_map}
-use Rattle.std.proofs.lemmas.Iterator.Adapters.{fits_from_length, at_most_from_yields_List}
 use Rattle.std.proofs.lemmas.Iterator.Consumers.{YieldsList-at, YieldsList-from_first, sum_by_from_yields_List}
 use Rattle.run.specs.Running.{load_size_of}
 use Rattle.run.proofs.Items.{loads_added}
 use Rattle.run.proofs.events.load_bytes.Goals as goal
-
-pub sum-requires-clause-fits : goal.sum-requires-clause-fits
-sum-requires-clause-fits c =
-    fits_from_length _ _ 1024 _
-    (at_most_from_yields_List (YieldsList-at c.map.ensures.source (YieldsList-from_first (λ x. x) (λ left. left) c.items.result refl)) (omega (arith, c.items.ensures.few)))
-    c.map.ensures.closure (omega arith) (λ x r q k. search (rules, tests))
 
 pub returns : goal.returns
 returns c =

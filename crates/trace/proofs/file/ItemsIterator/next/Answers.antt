@@ -6,13 +6,8 @@ use native.Mathlib.Omega.{arith}
 use lib.ListN.{length}
 use Rattle.std.proofs.Common.{rules}
 use Rattle.trace.specs.Beginning.{IsAtBody, held_item_in, items_from}
-use Rattle.trace.proofs.Entries.{none_left, one_left, walked}
+use Rattle.trace.proofs.Entries.{none_left, one_left, walks_on}
 use Rattle.trace.proofs.file.ItemsIterator.next.Goals as goal
-
-pub invariant_of-self : goal.invariant_of-self
-invariant_of-self c =
-    let steps = c.in_err-event.ensures.steps in
-    rw (steps.0, steps.1.1) c.self.invariant
 
 pub returns-in_err-event-clause-steps : goal.returns-in_err-event-clause-steps
 returns-in_err-event-clause-steps c =
@@ -30,7 +25,7 @@ one c =
     let steps = c.in_ok-event.ensures.steps in
     let few : w.events.start < w.events.end = omega (arith, steps.1.0) in
     let entry = rw steps.1.1 at c.entry_of-entry.ensures in
-    let (here, on) = walked w.beginning.now w.events.end w.events.start w.start c.entry_of-entry.result c.self.invariant few entry (omega arith) in
+    let (here, on) = walks_on w.beginning.now w.events.end w.events.start w.start c.entry_of-entry.result c.self.invariant few entry (omega arith) in
     (c.item_at-item.ensures ∙ here, rw (steps.0, steps.1.2) on)
 
 pub invariant_of-self-2 : goal.invariant_of-self-2
