@@ -1,2 +1,2 @@
--- What the proof of `read_sheet` cites.
-pub mod Beginning
+-- What the proofs of `read_sheet` and `read_full` cite.
+pub mod Reading
