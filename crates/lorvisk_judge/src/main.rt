@@ -71,12 +71,19 @@ fn answer_or_none(rt: &HostRuntime, name: &[u8], answer: io::Result<Answer>) -> 
     input::ok_or_report(rt, name, answer).unwrap_or(Answer::NoVerdict)
 }
 
-// One write, so that a pipe has the line whole or not at all. Nobody is left to tell of one that fails.
+// The line of a file, with as much of its name as stands before a newline.
 fn print(rt: &HostRuntime, name: &[u8], answer: io::Result<Answer>) {
     let name = &name[..first_line(name)];
-    let numbers = line::answer_numbers(answer_or_none(rt, name, answer));
+    let answer = answer_or_none(rt, name, answer);
+    print_answer(rt, name, answer);
+}
+
+// One write, so that a pipe has the line whole or not at all. Nobody is left to tell of one that fails. Not inlined, so that the
+// room for the line is not taken while an error is told.
+#[inline(never)]
+fn print_answer(rt: &impl Print, name: &[u8], answer: Answer) {
     let mut line = [0u8; PATH_MAX + 1 + LINE_LENGTH];
-    let length = line::lay_out_named(name, &numbers, &mut line);
+    let length = line::lay_out_named(name, &line::answer_numbers(answer), &mut line);
     let _ = rt.write_all(&line[..length]);
 }
 
