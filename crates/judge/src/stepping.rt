@@ -134,7 +134,9 @@ impl State {
     }
 
     // The earlier event that an event without fault clashes with. Accesses and operations are compared with the open
-    // operations alone.
+    // operations alone. Not inlined: within the walk over a file the search, which is most of the work where much is open, was
+    // compiled with its jumps so placed that it took half as long again.
+    #[inline(never)]
     fn clash(self, part: Part, ranges: &[u32], marks: &[u32]) -> Option<u32>
         requires { goes_on self (length ranges.now) (length marks.now) ≡ true }
         ensures { result ≡ clash_in part (records self.unclosed ranges.now marks.now) }
