@@ -1,5 +1,6 @@
 // One event more.
 ghost use Rattle.std.specs.Prelude.{◌≡◌, true, ◌<◌, max, length, Ok};
+ghost use Rattle.answer.specs.declared.Answer.TheVariants.{Clash};
 ghost use Rattle.answer.specs.Table.{event_limit};
 ghost use Rattle.decoder.specs.Kinds.{decode_of};
 ghost use Rattle.operations.specs.Table.{records};
@@ -108,29 +109,41 @@ impl State {
         }
     }
 
-    // The state after an event without fault. A clash changes no word, and a wait compacts the table in place.
+    // The state after an event without fault. A wait compacts the table in place. The part is told apart before the
+    // search and not after it: it would have to be kept over the search, which costs every access.
     fn after(self, part: Part, ranges: &mut [u32], marks: &mut [u32]) -> State
         requires { goes_on self (length ranges.old) (length marks.old) ≡ true }
         ensures { leaving result ranges.new marks.new ≡ left_by part self ranges.old marks.old }
     {
-        if let Some(partner) = self.clash(part, ranges, marks) {
-            return self.refused(Answer::Clash {
-                event: self.events,
-                partner,
-            });
-        }
         match part {
-            Part::Access(_) => self.passed(self.unclosed, self.made),
-            Part::Operation(operation) => {
-                operations::put(ranges, marks, self.unclosed, operation);
-                self.passed(self.unclosed + 1, self.made)
-            }
+            Part::Access(_) => match self.clash(part, ranges, marks) {
+                Some(partner) => self.clashed(partner),
+                None => self.passed(self.unclosed, self.made),
+            },
+            Part::Operation(operation) => match self.clash(part, ranges, marks) {
+                Some(partner) => self.clashed(partner),
+                None => {
+                    operations::put(ranges, marks, self.unclosed, operation);
+                    self.passed(self.unclosed + 1, self.made)
+                }
+            },
             Part::Commit(made) => self.passed(self.unclosed, made),
             Part::Wait(made, wait) => {
                 let unclosed = operations::close(ranges, marks, self.unclosed, wait);
                 self.passed(unclosed, made)
             }
         }
+    }
+
+    // The state after an event that clashes with this earlier one: it changes no word.
+    fn clashed(self, partner: u32) -> State
+        requires { self.events < event_limit }
+        ensures { result ≡ refused_by self (Clash self.events partner) }
+    {
+        self.refused(Answer::Clash {
+            event: self.events,
+            partner,
+        })
     }
 
     // The earlier event that an event without fault clashes with. Accesses and operations are compared with the open

@@ -71,7 +71,9 @@ const COPY_TAG: u32 = Memory::Shared as u32 + CHAIN_PLACE * (Chain::Copies as u3
 
 const BULK_TAG: u32 = Memory::Global as u32 + CHAIN_PLACE * (Chain::Bulk as u32);
 
-// .. and, of a reduction, its operation, from 1 on, and its type.
+// .. and, of a reduction, its operation, from 1 on, and its type. Not inlined: within the walk over a file the bytes of both
+// were taken out of every event, reduction or not.
+#[inline(never)]
 fn reduction_tag(operation: Operation, element: ElementType) -> u32
     ensures { result ≡ reduction_tag operation element }
 {

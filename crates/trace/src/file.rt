@@ -85,8 +85,9 @@ impl<'a> Iterator for Items<'a> {
     fn next(&mut self) -> Option<decoder::Item> {
         let event = self.events.next()?;
         let entry = entry_of(self.beginning, event);
-        let item = item_at(self.beginning, self.start, entry);
+        // First on to the next body: what is still to do after the decoding would be kept over it.
+        let start = self.start;
         self.start += entry.length as usize;
-        Some(item)
+        Some(item_at(self.beginning, start, entry))
     }
 }

@@ -17,8 +17,8 @@ returns-in_err-event-clause-steps c =
     rw (c.from_residual.ensures, steps.0, steps.1.1) (sym c.self.view_is ∙ none, none)
 
 -- The item of the next event, and the next body.
-one : (c : goal.After-self-1)
-    → (c.item_at-item.result ≡ held_item_in c.self.inside.beginning.now c.self.inside.events.start)
+one : (c : goal.After-item_at)
+    → (c.item_at.result ≡ held_item_in c.self.inside.beginning.now c.self.inside.events.start)
     × IsAtBody c.self.inside.beginning.now c.next.new.self.end c.next.new.self.start (c.self.inside.start + c.entry_of-entry.result.length)
 one c =
     let w = c.self.inside in
@@ -26,13 +26,13 @@ one c =
     let few : w.events.start < w.events.end = omega (arith, steps.1.0) in
     let entry = rw steps.1.1 at c.entry_of-entry.ensures in
     let (here, on) = walks_on w.beginning.now w.events.end w.events.start w.start c.entry_of-entry.result c.self.invariant few entry (omega arith) in
-    (c.item_at-item.ensures ∙ here, rw (steps.0, steps.1.2) on)
+    (c.item_at.ensures ∙ here, rw (steps.0, steps.1.2) on)
 
 pub invariant_of-self-2 : goal.invariant_of-self-2
 invariant_of-self-2 c = (one c).1
 
-gives : (c : goal.After-self-1)
-    → c.args.self.now ≡ c.item_at-item.result ∷ items_from c.self.inside.beginning.now c.next.new.self.end c.next.new.self.start
+gives : (c : goal.After-item_at)
+    → c.args.self.now ≡ c.item_at.result ∷ items_from c.self.inside.beginning.now c.next.new.self.end c.next.new.self.start
 gives c =
     let w = c.self.inside in
     let steps = c.in_ok-event.ensures.steps in
