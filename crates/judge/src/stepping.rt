@@ -135,7 +135,7 @@ impl State {
         }
     }
 
-    // The state after an event that clashes with this earlier one: it changes no word.
+    // The state after an event that clashes with this earlier one.
     fn clashed(self, partner: u32) -> State
         requires { self.events < event_limit }
         ensures { result ≡ refused_by self (Clash self.events partner) }
